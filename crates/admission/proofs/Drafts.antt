@@ -19,7 +19,7 @@ use Rattle.nuc_base.specs.declared.platform.Platform.{Platform}
 use Rattle.nuc_base.proofs.Lists.{in_nil, in_one, in_cons, in_here, in_there}
 use Rattle.recipe_reader.specs.Candidates.{IsReadFor}
 use Rattle.recipe_reader.specs.Members.{members, IsRising}
-use Rattle.recipe_reader.specs.OneRecipe.{Reads, IsOneRecipe}
+use Rattle.recipe_reader.specs.OneRecipe.{IsRecipeFor, IsOneRecipe}
 use Rattle.recipe_reader.specs.Sound.{ReadsSound, artifact_file}
 use Rattle.recipe_reader.specs.declared.candidate.Candidate.{Candidate}
 use Rattle.records.specs.Stored.{Item, DraftItem, Draft}
@@ -30,7 +30,7 @@ use Rattle.deployment_doc.specs.declared.document.Root.{Root}
 use Rattle.library_core.specs.Gathered.{KeepBytes}
 use Rattle.device.specs.Devices.{Device}
 use Rattle.device.specs.Lawful.{MayAccept}
-use Rattle.device.specs.Plans.{AreItems, HasRecipe, IsHeldFor, Rise, item_name}
+use Rattle.device.specs.Plans.{AreItems, HasRecipe, IsHeldFor, AreRising, item_name}
 use Rattle.plan_core.specs.Laws.{FilledIsAllowed}
 use Rattle.plan_core.specs.Plans.{IsPlanned}
 use Rattle.plan_core.specs.Ready.{MayPlan}
@@ -57,7 +57,7 @@ below_all n (x ∷ items) less i has = elim (in_cons x items i has) [
 ]
 
 -- where names rise, two items of one name are one
-same_item : (items : List Item) → Rise (map item_name items) → (a b : Item) → Contains items a → Contains items b → a.name ≡ b.name → a ≡ b
+same_item : (items : List Item) → AreRising (map item_name items) → (a b : Item) → Contains items a → Contains items b → a.name ≡ b.name → a ≡ b
 unfolding IsStrictlySortedBy
 same_item [] rise a b i j same = absurd (in_nil a i)
 same_item (x ∷ items) rise a b i j same = elim (in_cons x items a i) [
@@ -143,7 +143,7 @@ module _ (one : IsOneRecipe) (p : Platform) (set : List Item) (items : AreItems 
   keeps_one c reads kept k has named versioned =
       let r = All-contains (HasRecipe p) set k (All-from_recursion (HasRecipe p) set items.recipes) has in
       let bytes : c.bytes ≡ k.recipe = kept k c has (in_here c []) (sym named) (sym versioned) in
-      let alike = one k.recipe p r.0 c.recipe r.1.reads (subst (λ (b : List ℕ). Reads b p c.recipe) bytes reads) in
+      let alike = one k.recipe p r.0 c.recipe r.1.reads (subst (λ (b : List ℕ). IsRecipeFor b p c.recipe) bytes reads) in
       let parts : AllZip IsHeldFor c.recipe.artifacts k.artifacts = subst (λ (l : List Artifact). AllZip IsHeldFor l k.artifacts) alike.artifacts r.1.files in
       let test = some_found (λ (j : Item). bytes_eq c.recipe.name j.name && bytes_eq c.recipe.version j.version) set k has
       (both (bytes_eq c.recipe.name k.name) (bytes_eq c.recipe.version k.version) ((bytes_eq-Decides c.recipe.name k.name).1 (sym named))
@@ -205,7 +205,7 @@ module _ (one : IsOneRecipe) (sound : ReadsSound) (allowed : FilledIsAllowed) (o
   may_stage = record {
     named = set_named sound o.platform d.set may.set;
     drafted = drafted_items draft.items (named_items sound o.platform (map sample_item draft.items) sample_items.recipes);
-    rise = subst Rise (sample_names draft.items) sample_items.rise;
+    rise = subst AreRising (sample_names draft.items) sample_items.rise;
     differ = files_of_items sound o.platform draft.items sample_items.recipes;
     keeps = keeps_draft;
   }

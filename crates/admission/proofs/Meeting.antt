@@ -5,7 +5,7 @@ use Rattle.std.specs.List.{All, AllByRecursion, AllZip, Contains}
 use Rattle.std.specs.Str.{bytes_eq}
 use Rattle.std.proofs.lemmas.List.Elements.{All-contains, recursion_from_All}
 use Rattle.nuc_base.proofs.Lists.{all_from_in, in_cons, in_here, in_map, in_nil, in_there}
-use Rattle.npm_ranges.specs.Ranges.{Meets}
+use Rattle.npm_ranges.specs.Ranges.{IsInRange}
 use Rattle.recipe_reader.specs.Members.{members}
 use Rattle.recipe_reader.specs.Sets.{IsMet, IsMetBy, name_in, version_in}
 use Rattle.recipe_reader.specs.declared.candidate.Candidate.{Candidate}
@@ -17,7 +17,7 @@ use Rattle.device.specs.Devices.{Device, Group}
 use Rattle.device.specs.Grouped.{group_after, with_group}
 use Rattle.device.specs.Met.{GroupsAreMet, IsAnswered}
 use Rattle.device.specs.Sound.{IsSound}
-use Rattle.device.specs.Filled.{Fills, FillsItem}
+use Rattle.device.specs.Filled.{PlanFilled, ItemFilled}
 use Rattle.plan_core.specs.Plans.{IsPlanned}
 use Rattle.plan_core.specs.Requests.{root_requirement, wanted_of}
 use Rattle.plan_core.specs.Set.{chosen, item_of, items_of, with_candidate}
@@ -56,20 +56,20 @@ beside {A = A} R (a ∷ xs) (y ∷ ys) z x i = elim (in_cons a xs x i) [
 
 module _ (cs : List Candidate) (set : List ℕ) (below : All (λ p. p < length cs) set) (drafts : Candidate → DraftItem)
     (named : (c : Candidate) → (drafts c).name ≡ c.recipe.name) (versioned : (c : Candidate) → (drafts c).version ≡ c.recipe.version)
-    (items : List Item) (fills : AllZip FillsItem (map drafts (chosen cs set)) items) where
+    (items : List Item) (fills : AllZip ItemFilled (map drafts (chosen cs set)) items) where
   answered_by : (r : Requirement) (q : ℕ) → Contains set q → IsMetBy (members cs) r.name r.range q → (o : Option Candidate) → slice_get cs q ≡ o →
       IsAnswered items r
   answered_by r q has met None is = absurd (some_below cs q (All-contains (λ (p : ℕ). p < length cs) set q below has) is)
   answered_by r q has met (Some c) is =
-      let i = beside FillsItem (map drafts (chosen cs set)) items fills (drafts c) (in_map drafts (chosen cs set) c (in_chosen cs set q c is has)) in
+      let i = beside ItemFilled (map drafts (chosen cs set)) items fills (drafts c) (in_map drafts (chosen cs set) c (in_chosen cs set q c is has)) in
       let name : Some c.recipe.name ≡ Some r.name = sym (ap name_in (at_place cs q c is)) ∙ met.named in
       let same : c.recipe.name ≡ r.name = cc in
       record {
         item = i.0;
         is_one = i.1;
         name = i.2.name ∙ named c ∙ same;
-        version = subst (λ (v : List ℕ). Meets v r.range) (sym (i.2.version ∙ versioned c))
-            (subst (λ (o : Option (List ℕ)). IfSome o (λ v. Meets v r.range)) (ap version_in (at_place cs q c is)) met.meets);
+        version = subst (λ (v : List ℕ). IsInRange v r.range) (sym (i.2.version ∙ versioned c))
+            (subst (λ (o : Option (List ℕ)). IfSome o (λ v. IsInRange v r.range)) (ap version_in (at_place cs q c is)) met.meets);
       }
 
   pub answered : (r : Requirement) → IsMet (members cs) set r.name r.range → IsAnswered items r
@@ -78,7 +78,7 @@ module _ (cs : List Candidate) (set : List ℕ) (below : All (λ p. p < length c
 -- ---- a plan that is taken in
 
 module _ (d : Device) (o : Origin) (cs : List Candidate) (document : Document) (draft : Draft) (plan : Plan) (sound : IsSound d)
-    (planned : IsPlanned o d cs document draft) (fills : Fills draft plan) where
+    (planned : IsPlanned o d cs document draft) (fills : PlanFilled draft plan) where
   set : List ℕ
   set = planned.plan.is_choice.0
 
@@ -91,7 +91,7 @@ module _ (d : Device) (o : Origin) (cs : List Candidate) (document : Document) (
       planned.plan.items ∙ ap (items_of d.set document.roots) planned.plan.is_choice.2 in
       recursion_from_All (IsAnswered plan.items) requirements (all_from_in (IsAnswered plan.items) requirements (λ r has.
       answered cs set (inside cs (wanted_of d.groups document) set valid) (item_of d.set document.roots) (λ c. refl) (λ c. refl) plan.items
-      (subst (λ (l : List DraftItem). AllZip FillsItem l plan.items) items fills.items) r (met r has)))
+      (subst (λ (l : List DraftItem). AllZip ItemFilled l plan.items) items fills.items) r (met r has)))
 
   pub plan_is_met : GroupsAreMet (with_group d.groups plan) plan.items
   unfolding set

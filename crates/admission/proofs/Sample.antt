@@ -8,7 +8,7 @@ use Rattle.recipe_reader.specs.Sound.{artifact_file}
 use Rattle.records.specs.Stored.{Item, DraftItem, Draft, Plan}
 use Rattle.records.specs.declared.record.Held.{Held}
 use Rattle.device.specs.Plans.{IsHeldFor, item_name}
-use Rattle.device.specs.Filled.{Fills, FillsItem}
+use Rattle.device.specs.Filled.{PlanFilled, ItemFilled}
 use Rattle.artifact_store.specs.Staged.{draft_name}
 
 abbrev given_or_none : Option (List ℕ) → List ℕ
@@ -40,11 +40,11 @@ files_filled : (parts : List Artifact) → AllZip IsHeldFor parts (map sample_he
 files_filled [] = tt
 files_filled (a ∷ parts) = (record { file = refl; digest = given_is a.digest }, files_filled parts)
 
-items_filled : (items : List DraftItem) → AllZip FillsItem items (map sample_item items)
+items_filled : (items : List DraftItem) → AllZip ItemFilled items (map sample_item items)
 items_filled [] = tt
 items_filled (i ∷ items) = (record { name = refl; version = refl; recipe = refl; config = refl; files = files_filled i.artifacts }, items_filled items)
 
-pub sample_fills : (draft : Draft) → Fills draft (sample draft)
+pub sample_fills : (draft : Draft) → PlanFilled draft (sample draft)
 sample_fills draft = record { id = refl; group = refl; revision = refl; policy = refl; requirements = refl; items = items_filled draft.items; boots = refl }
 
 pub sample_names : (items : List DraftItem) → map item_name (map sample_item items) ≡ map draft_name items

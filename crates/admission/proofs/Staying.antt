@@ -1,9 +1,9 @@
 -- Whatever becomes of the files of artifacts, the journal stays in hand.
 use Rattle.std.proofs.Common.{ℕ, List}
 use Rattle.std.specs.Prelude.{Bool}
-use Rattle.disk_model.specs.Disk.{Image, After, DiskLaws, Leaves}
+use Rattle.disk_model.specs.Disk.{Image, IsAfter, DiskLaws, HasLeft}
 use Rattle.disk_model.specs.Listing.{artifacts, IsBelow}
-use Rattle.disk_model.specs.Spares.{Spares}
+use Rattle.disk_model.specs.Spares.{IsSameBut}
 use Rattle.disk_model.specs.Moments.{now}
 use Rattle.gate_log.specs.Journal.{JournalLaws}
 use Rattle.device.specs.Devices.{Device}
@@ -15,7 +15,7 @@ module _ {D J : Type 0} {is_modelled : Bool} {seen : D → Image} {may_leave : D
     {files : List ℕ → Type 0} {entries : Image → List (List ℕ) → Type 0} {holds_none : Image → Type 0} {is_damaged : Image → ℕ → Type 0}
     {stands : J → Image → List (List ℕ) → Type 0} {end : J → ℕ} (journal : JournalLaws files entries holds_none is_damaged stands end)
     (apart : LieElsewhere files) where
-  pub hand_stays : (log : J) (d : Device) (old new : D) → Leaves moment left_since old new (After (may_leave old) (Spares (IsBelow artifacts)))
+  pub hand_stays : (log : J) (d : Device) (old new : D) → HasLeft moment left_since old new (IsAfter (may_leave old) (IsSameBut (IsBelow artifacts)))
       → OwnsJournal is_modelled may_leave stands end log old d → OwnsJournal is_modelled may_leave stands end log new d
   hand_stays log d old new leaves hand = record {
     payloads = hand.payloads;

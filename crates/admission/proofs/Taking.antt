@@ -22,7 +22,7 @@ use Rattle.device.specs.Devices.{Device, IsRegularDevice, pending_view}
 use Rattle.device.specs.declared.staged.Pending as code_pending
 use Rattle.device.specs.Plans.{AreRegularItems}
 use Rattle.device.specs.Sound.{IsSound}
-use Rattle.plan_core.specs.Checks.{PassesAll, Proposes, facts, plan_checks}
+use Rattle.plan_core.specs.Checks.{PassesAll, DraftOfDocument, facts, plan_checks}
 use Rattle.plan_core.specs.Laws.{FilledIsAllowed}
 use Rattle.plan_core.specs.Plans.{IsPlanned}
 use Rattle.plan_core.specs.Ready.{GatheredMayPlan, MayPlan}
@@ -30,7 +30,7 @@ use Rattle.plan_core.specs.Set.{bare}
 use Rattle.plan_core.specs.declared.fault.Refusal.{Refusal}
 use Rattle.plan_core.specs.declared.fault.Refusal.TheVariants.{Candidates}
 use Rattle.library_core.specs.declared.fault.CandidatesFault.TheVariants as gather
-use Rattle.device.specs.Filled.{FillsItem}
+use Rattle.device.specs.Filled.{ItemFilled}
 use Rattle.artifact_store.specs.Filled.{Filled}
 use Rattle.artifact_store.specs.Staged.{IsOutside, draft_lines}
 use Rattle.artifact_store.specs.declared.fault.StageFault.{StageFault}
@@ -59,13 +59,13 @@ passes_any d o content b a c e document cs draft h =
 
 module _ (d : Device) (o : Origin) (content : Option Content) (before mid after : ℕ) (document : Document) where
   -- a check failed
-  pub refused : (a : Refusal) (r : Answer) → IsErrAnd r (λ e. e ≡ Refused a) → Proposes d o content before after document (Err a) →
+  pub refused : (a : Refusal) (r : Answer) → IsErrAnd r (λ e. e ≡ Refused a) → DraftOfDocument d o content before after document (Err a) →
       TakesIn d o content before after document r
   refused a r h p = subst (TakesIn d o content before after document) (sym (err_of r (Refused a) h)) (p.0, p.1, p.2)
 
   -- a file was not taken in
   pub unstaged : (draft : code_draft.Draft) (set : List Item) (f : StageFault) (r : Answer) → IsErrAnd r (λ e. e ≡ Unstaged f) → set ≡ d.set
-      → Proposes d o content before mid document (Ok draft)
+      → DraftOfDocument d o content before mid document (Ok draft)
       → ((l : Content) → content ≡ Some l → IsOutside f ⊎ IsFirst (draft_lines l set (draft_view draft)) f)
       → TakesIn d o content before after document r
   unstaged draft set f r h same p said = subst (TakesIn d o content before after document) (sym (err_of r (Unstaged f) h)) (
@@ -80,7 +80,7 @@ module _ (d : Device) (o : Origin) (content : Option Content) (before mid after 
 
   -- all went well
   pub taken : (draft : code_draft.Draft) (set : List Item) (plan : code_plan.Plan) → set ≡ d.set
-      → Proposes d o content before mid document (Ok draft)
+      → DraftOfDocument d o content before mid document (Ok draft)
       → IsFilled content set (draft_view draft) (plan_view plan)
       → TakesIn d o content before after document (Ok plan)
   taken draft set plan same p filled = (
@@ -95,7 +95,7 @@ module _ (d : Device) (o : Origin) (content : Option Content) (before mid after 
 
 -- ---- what may be accepted
 
-regular_items : (is : List DraftItem) (js : List Item) → AllZip FillsItem is js → AreRegularItems (map bare is) → AreRegularItems js
+regular_items : (is : List DraftItem) (js : List Item) → AllZip ItemFilled is js → AreRegularItems (map bare is) → AreRegularItems js
 regular_items [] [] z regular = All-nil (λ (j : Item). IsRegular j.config)
 regular_items [] (j ∷ js) z regular = absurd z
 regular_items (i ∷ is) [] z regular = absurd z
@@ -111,7 +111,7 @@ some_origin (Some o) h = (o, refl)
 module _ (one : IsOneRecipe) (reads_sound : ReadsSound) (allowed : FilledIsAllowed) (gathered : GatheredMayPlan) (d : Device) (document : Document)
     (sound : IsSound d) (regular : IsRegularDevice d) (origin : IsSome d.origin) (idle : d.pending ≡ None) (roots : AreSound document.roots)
     (content : Option Content) (before after : ℕ) (draft : code_draft.Draft)
-    (proposed : (o : Origin) → d.origin ≡ Some o → Proposes d o content before after document (Ok draft)) where
+    (proposed : (o : Origin) → d.origin ≡ Some o → DraftOfDocument d o content before after document (Ok draft)) where
   -- by what the draft was made
   record IsMade : Type 0 where
     of : Origin
@@ -148,13 +148,13 @@ module _ (one : IsOneRecipe) (reads_sound : ReadsSound) (allowed : FilledIsAllow
 module _ (one : IsOneRecipe) (reads_sound : ReadsSound) (allowed : FilledIsAllowed) (gathered : GatheredMayPlan) (d : Device) (document : Document)
     (sound : IsSound d) (regular : IsRegularDevice d) (origin : IsSome d.origin) (idle : d.pending ≡ None) (roots : AreSound document.roots)
     (content : Option Content) (before after : ℕ) where
-  pub stages_by : (r : Result code_draft.Draft Refusal) → ((o : Origin) → d.origin ≡ Some o → Proposes d o content before after document r)
+  pub stages_by : (r : Result code_draft.Draft Refusal) → ((o : Origin) → d.origin ≡ Some o → DraftOfDocument d o content before after document r)
       → IfOk r (λ draft. MayStage d.set (draft_view draft).items)
   stages_by (Ok draft) proposed = may_stage_draft one reads_sound allowed gathered d document sound regular origin
       idle roots content before after draft proposed
   stages_by (Err a) proposed = tt
 
-  pub takes_by : (r : Result code_draft.Draft Refusal) → ((o : Origin) → d.origin ≡ Some o → Proposes d o content before after document r)
+  pub takes_by : (r : Result code_draft.Draft Refusal) → ((o : Origin) → d.origin ≡ Some o → DraftOfDocument d o content before after document r)
       → IfOk r (λ draft. MayTakeFilled d (draft_view draft))
   takes_by (Ok draft) proposed = may_take one reads_sound allowed gathered d document sound regular origin idle roots content before after draft proposed
   takes_by (Err a) proposed = tt

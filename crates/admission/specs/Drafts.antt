@@ -4,8 +4,8 @@ use Rattle.std.specs.List.{AllByRecursion}
 use Rattle.records.specs.Stored.{Accepted, Draft, DraftItem, Item, Plan}
 use Rattle.device.specs.Devices.{Device}
 use Rattle.device.specs.Lawful.{Allowed}
-use Rattle.device.specs.Plans.{AreRegularItems, Rise}
-use Rattle.device.specs.Filled.{Fills}
+use Rattle.device.specs.Plans.{AreRegularItems, AreRising}
+use Rattle.device.specs.Filled.{PlanFilled}
 use Rattle.artifact_store.specs.Paths.{IsNamed, IsNamedDraft}
 use Rattle.artifact_store.specs.Staged.{HasItsFiles, KeepsFiles, draft_name}
 
@@ -13,7 +13,7 @@ use Rattle.artifact_store.specs.Staged.{HasItsFiles, KeepsFiles, draft_name}
 pub record MayStage (set : List Item) (items : List DraftItem) : Type 0 where
   pub named : AllByRecursion IsNamed set
   pub drafted : AllByRecursion IsNamedDraft items
-  pub rise : Rise (map draft_name items)
+  pub rise : AreRising (map draft_name items)
   pub differ : AllByRecursion HasItsFiles items
   pub keeps : AllByRecursion (KeepsFiles set) items
 
@@ -24,4 +24,4 @@ pub record MayTake (d : Device) (plan : Plan) : Type 0 where
 
 -- whatever plan fills the draft
 abbrev pub MayTakeFilled : Device → Draft → Type 0
-MayTakeFilled d draft = (plan : Plan) → Fills draft plan → MayTake d plan
+MayTakeFilled d draft = (plan : Plan) → PlanFilled draft plan → MayTake d plan

@@ -16,7 +16,7 @@ use Rattle.deployment_doc.specs.declared.document.Document.{Document}
 use Rattle.deployment_doc.specs.declared.fault.DocFault.{DocFault}
 use Rattle.plan_core.specs.Checks.{document_refusal}
 use Rattle.plan_core.specs.declared.fault.Refusal.TheVariants as refusal
-use Rattle.local_deploy.specs.Documents.{IsLocalDocument, Refuses}
+use Rattle.local_deploy.specs.Documents.{IsLocalDocument, IsLocalRefusal}
 use Rattle.local_deploy.specs.Reads as request
 use Rattle.local_deploy.specs.declared.fault.LocalFault.{LocalFault}
 use Rattle.local_deploy.specs.declared.fault.LocalFault.TheVariants as local
@@ -84,7 +84,7 @@ AsksLocal bytes d (Ok document) = (r : LocalRequest) × IsLocalOn bytes d r × I
 AsksLocal bytes d (Err x) =
     ((fault : LocalFault) × request.IsFault bytes fault × (x ≡ local_declined fault))
     ⊎ ((r : LocalRequest) × request.ReadsRequest bytes (Ok r) × IsRepeated d r.id x)
-    ⊎ ((r : LocalRequest) × IsLocalOn bytes d r × ((f : LocalRefusal) × Refuses d r f × (x ≡ unmade f)))
+    ⊎ ((r : LocalRequest) × IsLocalOn bytes d r × ((f : LocalRefusal) × IsLocalRefusal d r f × (x ≡ unmade f)))
 
 -- ---- a change of one component's configuration
 
@@ -104,14 +104,14 @@ AsksChange name bytes d (Err x) =
 -- ---- any of them
 
 -- what the bytes come to on the device
-abbrev pub Requests : Ask → List ℕ → Device → Result Document Declined → Type 0
-Requests ask.Document bytes = ReadsAs bytes
-Requests ask.Local bytes = AsksLocal bytes
-Requests (ask.Change name) bytes = AsksChange name bytes
+abbrev pub AskOutcome : Ask → List ℕ → Device → Result Document Declined → Type 0
+AskOutcome ask.Document bytes = ReadsAs bytes
+AskOutcome ask.Local bytes = AsksLocal bytes
+AskOutcome (ask.Change name) bytes = AsksChange name bytes
 
 -- Want of memory is free.
-abbrev pub Makes : Ask → List ℕ → Device → Result Document Declined → Type 0
-Makes what bytes d result = (result ≡ Err (Refused refusal.NoMemory)) ⊎ Requests what bytes d result
+abbrev pub AnswerOfAsk : Ask → List ℕ → Device → Result Document Declined → Type 0
+AnswerOfAsk what bytes d result = (result ≡ Err (Refused refusal.NoMemory)) ⊎ AskOutcome what bytes d result
 
 -- it came to none without a fault from outside
 abbrev pub IsInside : Declined → Type 0

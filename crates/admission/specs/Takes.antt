@@ -10,9 +10,9 @@ use Rattle.records.specs.declared.record.Origin.{Origin}
 use Rattle.disk_model.specs.Listing.{artifacts, IsBelow}
 use Rattle.device.specs.Devices.{Device}
 use Rattle.deployment_doc.specs.declared.document.Document.{Document}
-use Rattle.plan_core.specs.Checks.{Facts, PassesAll, Stops, facts, plan_checks}
+use Rattle.plan_core.specs.Checks.{Facts, PassesAll, RefusalOf, facts, plan_checks}
 use Rattle.plan_core.specs.declared.fault.Refusal.TheVariants as refusal
-use Rattle.device.specs.Filled.{Fills}
+use Rattle.device.specs.Filled.{PlanFilled}
 use Rattle.artifact_store.specs.Filled.{Filled}
 use Rattle.artifact_store.specs.Staged.{IsOutside, draft_lines}
 use Rattle.artifact_store.specs.declared.fault.StageFault.{StageFault}
@@ -24,7 +24,7 @@ use Rattle.admission.specs.declared.fault.Declined.TheVariants.{Refused, Unstage
 
 -- the plan is the draft with a digest for each file, and where the library tells what it holds, with the digests of its files
 pub record IsFilled (content : Option Content) (set : List Item) (draft : Draft) (plan : Plan) : Type 0 where
-  pub fills : Fills draft plan
+  pub fills : PlanFilled draft plan
   pub told : (l : Content) → content ≡ Some l → AllHold (draft_lines l set draft) × Filled l draft plan
 
 -- a fault from outside, or where the library tells what it holds the first that its files give cause for
@@ -34,15 +34,16 @@ IsUnfilled content set draft f = (l : Content) → content ≡ Some l → IsOuts
 -- ---- the answer
 
 -- every check passes and the plan is the filled draft, or the first check that fails answers, or the first fault of the files
-abbrev pub Takes : Facts → Result code.Plan Declined → Type 0
-Takes f (Ok plan) = PassesAll f plan_checks × IsFilled f.content f.device.set f.draft (plan_view plan)
-Takes f (Err (Refused a)) = Stops f plan_checks a
-Takes f (Err (Unstaged a)) = PassesAll f plan_checks × IsUnfilled f.content f.device.set f.draft a
-Takes f (Err (Unasked u)) = ⊥
+abbrev pub AdmissionOutcome : Facts → Result code.Plan Declined → Type 0
+AdmissionOutcome f (Ok plan) = PassesAll f plan_checks × IsFilled f.content f.device.set f.draft (plan_view plan)
+AdmissionOutcome f (Err (Refused a)) = RefusalOf f plan_checks a
+AdmissionOutcome f (Err (Unstaged a)) = PassesAll f plan_checks × IsUnfilled f.content f.device.set f.draft a
+AdmissionOutcome f (Err (Unasked u)) = ⊥
 
 -- by some candidates and a draft
 abbrev pub TakesIn : Device → Origin → Option Content → ℕ → ℕ → Document → Result code.Plan Declined → Type 0
-TakesIn d o content before after document result = (cs : List Candidate) × (draft : Draft) × Takes (facts d o content before after document cs draft) result
+TakesIn d o content before after document result = (cs : List Candidate) × (draft : Draft)
+    × AdmissionOutcome (facts d o content before after document cs draft) result
 
 -- a check fails, or there is no document
 abbrev pub IsRefused : Result code.Plan Declined → Type 0

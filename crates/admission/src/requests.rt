@@ -4,7 +4,7 @@ ghost use Rattle.deployment_doc.specs.Sound.{AreSound};
 ghost use Rattle.device.specs.Devices.{device_view};
 ghost use Rattle.device.specs.Sound.{IsSound};
 ghost use Rattle.plan_core.specs.declared.fault.Refusal.TheVariants.{NoMemory as OutOfMemory};
-ghost use Rattle.admission.specs.Requests.{IsInside, Makes, unset};
+ghost use Rattle.admission.specs.Requests.{IsInside, AnswerOfAsk, unset};
 ghost use Rattle.admission.specs.declared.ask.Ask.TheVariants as asks;
 ghost use Rattle.admission.specs.declared.fault.Declined.TheVariants.{Refused};
 
@@ -31,7 +31,7 @@ fn unset(alloc: Global, fault: SetFault, name: &Name) -> Declined
 }
 
 fn read_document(alloc: Global, device: &Device, bytes: &[u8]) -> Result<Document, Declined>
-    ensures makes { Makes asks.Document bytes.now (device_view device.now) result }
+    ensures makes { AnswerOfAsk asks.Document bytes.now (device_view device.now) result }
     ensures sound { IfOk result (λ document. AreSound document.roots) }
     ensures inside { IfErr result (λ x. IsInside x) }
 {
@@ -41,7 +41,7 @@ fn read_document(alloc: Global, device: &Device, bytes: &[u8]) -> Result<Documen
 
 fn read_local(alloc: Global, device: &Device, bytes: &[u8]) -> Result<Document, Declined>
     requires { IsSound (device_view device.now) }
-    ensures makes { Makes asks.Local bytes.now (device_view device.now) result }
+    ensures makes { AnswerOfAsk asks.Local bytes.now (device_view device.now) result }
     ensures sound { IfOk result (λ document. AreSound document.roots) }
     ensures inside { IfErr result (λ x. IsInside x) }
 {
@@ -58,7 +58,7 @@ fn read_change(
     bytes: &[u8],
 ) -> Result<Document, Declined>
     requires { IsSound (device_view device.now) }
-    ensures makes { Makes (asks.Change name.now) bytes.now (device_view device.now) result }
+    ensures makes { AnswerOfAsk (asks.Change name.now) bytes.now (device_view device.now) result }
     ensures sound { IfOk result (λ document. AreSound document.roots) }
     ensures inside { IfErr result (λ x. IsInside x) }
 {
@@ -81,7 +81,7 @@ pub fn make_document(
     bytes: &[u8],
 ) -> Result<Document, Declined>
     requires { IsSound (device_view device.now) }
-    ensures makes { Makes ask.now bytes.now (device_view device.now) result }
+    ensures makes { AnswerOfAsk ask.now bytes.now (device_view device.now) result }
     ensures sound { IfOk result (λ document. AreSound document.roots) }
     ensures inside { IfErr result (λ x. IsInside x) }
 {

@@ -1,9 +1,9 @@
 //! Taking in a document.
 ghost use Rattle.std.specs.Prelude.{◌≡◌, ◌≤◌, IsTrue, IsErrOf, IsSome, map, None, Some, IfOk};
 ghost use Rattle.nuc_base.specs.Faults.{Rose};
-ghost use Rattle.disk_model.specs.Disk.{After, Leaves};
+ghost use Rattle.disk_model.specs.Disk.{IsAfter, HasLeft};
 ghost use Rattle.disk_model.specs.Listing.{artifacts, IsBelow};
-ghost use Rattle.disk_model.specs.Spares.{Spares};
+ghost use Rattle.disk_model.specs.Spares.{IsSameBut};
 ghost use Rattle.records.specs.Stored as stored;
 ghost use Rattle.records.specs.Stored.{plan_view, draft_view, item_view};
 ghost use Rattle.records.specs.declared.record.Origin.{Origin};
@@ -12,10 +12,10 @@ ghost use Rattle.device.specs.Lawful.{Allowed};
 ghost use Rattle.device.specs.Regularity.{IsRegularRecord};
 ghost use Rattle.device.specs.Sound.{IsSound};
 ghost use Rattle.library_core.specs.declared.fault.CandidatesFault.TheVariants.{Library as LibraryFailed};
-ghost use Rattle.plan_core.specs.Checks.{Proposes};
+ghost use Rattle.plan_core.specs.Checks.{DraftOfDocument};
 ghost use Rattle.deployment_doc.specs.Sound.{AreSound};
 ghost use Rattle.artifact_store.specs.Holding.{AllHoldDevice, AllHoldItems, HoldsDevice};
-ghost use Rattle.deploy_state.specs.Objects.{Holds};
+ghost use Rattle.deploy_state.specs.Objects.{OwnsOver};
 ghost use Rattle.deploy_state.specs.States.{OwnsIdle, idle_device};
 ghost use Rattle.admission.specs.Drafts.{MayStage, MayTakeFilled};
 ghost use Rattle.admission.specs.Takes.{HasDiskFailed, HasLibraryFailed, IsRefused, LieElsewhere, TakesIn};
@@ -45,7 +45,7 @@ fn draft_for<L: Library>(
     requires sound { IsSound (device_view device.now) }
     requires regular { IsRegularDevice (device_view device.now) }
     requires roots { AreSound document.now.roots }
-    ensures proposes { (o : Origin) → device.now.origin ≡ Some o → Proposes (device_view device.now) o (L.content library.old) (L.faults library.old)
+    ensures proposes { (o : Origin) → device.now.origin ≡ Some o → DraftOfDocument (device_view device.now) o (L.content library.old) (L.faults library.old)
         (L.faults library.new) document.now result }
     ensures stages { IfOk result (λ draft. MayStage (device_view device.now).set (draft_view draft).items) }
     ensures takes { IfOk result (λ draft. MayTakeFilled (device_view device.now) (draft_view draft)) }
@@ -71,7 +71,7 @@ pub fn take_in<D: Disk, J: Journal + Drop, L: Library>(
     disk: &mut D,
     library: &mut L,
 ) -> Result<Plan, Declined>
-    requires held { Holds D.Disk J.Journal OwnsIdle idle.now disk.old }
+    requires held { OwnsOver D.Disk J.Journal OwnsIdle idle.now disk.old }
     // The journal does not lie among the files of artifacts.
     requires apart { LieElsewhere J.files }
     requires roots { AreSound document.now.roots }
@@ -80,14 +80,14 @@ pub fn take_in<D: Disk, J: Journal + Drop, L: Library>(
     // The plan may be accepted.
     ensures lawful { IfOk result (λ plan. Allowed (idle_device idle.now) (stored.Accepted (plan_view plan))) }
     ensures regular { IfOk result (λ plan. IsRegularRecord (stored.Accepted (plan_view plan))) }
-    ensures held { Holds D.Disk J.Journal OwnsIdle idle.now disk.new }
+    ensures held { OwnsOver D.Disk J.Journal OwnsIdle idle.now disk.new }
     // A crash at any moment of the call changes files of artifacts alone.
-    ensures moments { Leaves D.moment D.left_since disk.old disk.new (After (D.may_leave disk.old) (Spares (IsBelow artifacts))) }
-    ensures others { IsTrue D.is_modelled → Spares (IsBelow artifacts) (D.seen disk.old) (D.seen disk.new) }
+    ensures moments { HasLeft D.moment D.left_since disk.old disk.new (IsAfter (D.may_leave disk.old) (IsSameBut (IsBelow artifacts))) }
+    ensures others { IsTrue D.is_modelled → IsSameBut (IsBelow artifacts) (D.seen disk.old) (D.seen disk.new) }
     // Where a check fails no file is touched.
     ensures untouched { IsRefused result → disk.new ≡ disk.old }
     // The device has its files at each moment, where it had them before, and the plan then has its own.
-    ensures safe { AllHoldDevice (D.may_leave disk.old) (idle_device idle.now) → Leaves D.moment D.left_since disk.old disk.new
+    ensures safe { AllHoldDevice (D.may_leave disk.old) (idle_device idle.now) → HasLeft D.moment D.left_since disk.old disk.new
         (λ c. HoldsDevice c (idle_device idle.now)) }
     ensures files { IfOk result (λ plan. AllHoldDevice (D.may_leave disk.old) (idle_device idle.now) →
         AllHoldItems (D.may_leave disk.new) (map item_view plan.items)) }

@@ -10,17 +10,18 @@ use Rattle.disk_model.specs.Disk.{Image}
 use Rattle.records.specs.Stored.{Item}
 use Rattle.records.specs.declared.record.Held.{Held}
 use Rattle.device.specs.Devices.{Device, Pending}
-use Rattle.artifact_store.specs.Audited.{Audits, held_line, item_line, items_lines}
+use Rattle.artifact_store.specs.Audited.{AuditOutcome, held_line, item_line, items_lines}
 use Rattle.artifact_store.specs.Holding.{HoldsFile, HoldsFiles, HoldsItems, HoldsDevice}
 use Rattle.artifact_store.specs.Swept.{items_of, pending_items}
 
 -- lines that hold, and others behind them
-pub audits_after : (above below : Table (List ℕ × List ℕ)) (r : Option (List ℕ × List ℕ)) → AllHold above → Audits below r → Audits (above ++ below) r
+pub audits_after : (above below : Table (List ℕ × List ℕ)) (r : Option (List ℕ × List ℕ)) → AllHold above → AuditOutcome below r
+    → AuditOutcome (above ++ below) r
 audits_after above below None holds said = all_both above below holds said
 audits_after above below (Some found) holds said = first_after above below found holds said
 
 -- a line that fails, and others behind it
-pub audits_before : (above below : Table (List ℕ × List ℕ)) (found : List ℕ × List ℕ) → IsFirst above found → Audits (above ++ below) (Some found)
+pub audits_before : (above below : Table (List ℕ × List ℕ)) (found : List ℕ × List ℕ) → IsFirst above found → AuditOutcome (above ++ below) (Some found)
 audits_before above below found first = first_before above below found first
 
 all_split : (above below : Table (List ℕ × List ℕ)) → AllHold (above ++ below) → AllHold above × AllHold below
@@ -40,17 +41,17 @@ first_split (line ∷ lines) below found (inr later) = elim (first_split lines b
 -- ---- one file
 
 pub held_next : (image : Image) (i : Item) (h : Held) (rest : List Held) (r : Option (List ℕ × List ℕ)) → HoldsFile image i.name i.version h →
-    Audits (each (held_line image i) rest) r → Audits (each (held_line image i) (h ∷ rest)) r
+    AuditOutcome (each (held_line image i) rest) r → AuditOutcome (each (held_line image i) (h ∷ rest)) r
 held_next image i h rest r holds said = audits_after (held_line image i h) (each (held_line image i) rest) r (holds, tt) said
 
 -- ---- items
 
-pub item_next : (image : Image) (i : Item) (rest : List Item) (r : Option (List ℕ × List ℕ)) → Audits (item_line image i) None →
-    Audits (items_lines image rest) r → Audits (items_lines image (i ∷ rest)) r
+pub item_next : (image : Image) (i : Item) (rest : List Item) (r : Option (List ℕ × List ℕ)) → AuditOutcome (item_line image i) None →
+    AuditOutcome (items_lines image rest) r → AuditOutcome (items_lines image (i ∷ rest)) r
 item_next image i rest r holds said = audits_after (item_line image i) (items_lines image rest) r holds said
 
-pub item_here : (image : Image) (i : Item) (rest : List Item) (found : List ℕ × List ℕ) → Audits (item_line image i) (Some found) →
-    Audits (items_lines image (i ∷ rest)) (Some found)
+pub item_here : (image : Image) (i : Item) (rest : List Item) (found : List ℕ × List ℕ) → AuditOutcome (item_line image i) (Some found) →
+    AuditOutcome (items_lines image (i ∷ rest)) (Some found)
 item_here image i rest found first = audits_before (item_line image i) (items_lines image rest) found first
 
 -- of two lists of items, one behind the other
@@ -61,19 +62,19 @@ first_left image (x ∷ xs) ys found first = elim (first_split (item_line image 
   | inr later ↦ first_after (item_line image x) (items_lines image (xs ++ ys)) found later.0 (first_left image xs ys found later.1)
 ]
 
-pub set_found : (image : Image) (d : Device) (found : List ℕ × List ℕ) → Audits (items_lines image d.set) (Some found) →
-    Audits (items_lines image (items_of d)) (Some found)
+pub set_found : (image : Image) (d : Device) (found : List ℕ × List ℕ) → AuditOutcome (items_lines image d.set) (Some found) →
+    AuditOutcome (items_lines image (items_of d)) (Some found)
 set_found image d found first = first_left image d.set (pending_items d.pending) found first
 
-both_audited : (image : Image) (xs ys : List Item) (r : Option (List ℕ × List ℕ)) → AllHold (items_lines image xs) → Audits (items_lines image ys) r →
-    Audits (items_lines image (xs ++ ys)) r
+both_audited : (image : Image) (xs ys : List Item) (r : Option (List ℕ × List ℕ)) → AllHold (items_lines image xs) → AuditOutcome (items_lines image ys) r →
+    AuditOutcome (items_lines image (xs ++ ys)) r
 both_audited image [] ys r holds said = said
 both_audited image (x ∷ xs) ys r holds said =
     let both = all_split (item_line image x) (items_lines image xs) holds in
     audits_after (item_line image x) (items_lines image (xs ++ ys)) r both.0 (both_audited image xs ys r both.1 said)
 
-pub pending_found : (image : Image) (d : Device) (r : Option (List ℕ × List ℕ)) → Audits (items_lines image d.set) None →
-    Audits (items_lines image (pending_items d.pending)) r → Audits (items_lines image (items_of d)) r
+pub pending_found : (image : Image) (d : Device) (r : Option (List ℕ × List ℕ)) → AuditOutcome (items_lines image d.set) None →
+    AuditOutcome (items_lines image (pending_items d.pending)) r → AuditOutcome (items_lines image (items_of d)) r
 pending_found image d r holds said = both_audited image d.set (pending_items d.pending) r holds said
 
 -- ---- none is named exactly where each is held
@@ -122,7 +123,7 @@ held_device : (image : Image) (d : Device) → HoldsDevice image d → AllHold (
 held_device image d holds = items_held image (items_of d) (items_joined image d.set (pending_items d.pending) holds.set
     (held_pending image d.pending holds.pending))
 
-whole_of : (image : Image) (d : Device) (found : Option (List ℕ × List ℕ)) → Audits (items_lines image (items_of d)) found →
+whole_of : (image : Image) (d : Device) (found : Option (List ℕ × List ℕ)) → AuditOutcome (items_lines image (items_of d)) found →
     (found ≡ None) ↔ HoldsDevice image d
 whole_of image d None said = ((λ same. device_held image d said), (λ holds. refl))
 whole_of image d (Some one) said = (
@@ -130,7 +131,7 @@ whole_of image d (Some one) said = (
   (λ holds. absurd (first_excludes (items_lines image (items_of d)) one (held_device image d holds) said)),
 )
 
-pub whole : {E : Type 0} (image : Image) (d : Device) (r : Result (Option (List ℕ × List ℕ)) E) → IfOk r (Audits (items_lines image (items_of d))) →
+pub whole : {E : Type 0} (image : Image) (d : Device) (r : Result (Option (List ℕ × List ℕ)) E) → IfOk r (AuditOutcome (items_lines image (items_of d))) →
     IfOk r (λ found. (found ≡ None) ↔ HoldsDevice image d)
 whole image d (Ok found) said = whole_of image d found said
 whole image d (Err e) said = tt
@@ -145,18 +146,18 @@ read_more m file old new at n stop step is told stops steps =
     let left : length (drop at file) ≡ length file - at = length-drop at file in
     let same : n ≡ step = omega (arith, within, left, stops, steps) in
     let piece : length (take n (drop at file)) ≡ n = length-take-le n (drop at file) within in
-    let front : take n new ≡ take n (drop at file) = ap (take n) told.1 ∙ take-append-le n (take n (drop at file)) (drop n old) (omega (arith, piece)) ∙
+    let prefix : take n new ≡ take n (drop at file) = ap (take n) told.1 ∙ take-append-le n (take n (drop at file)) (drop n old) (omega (arith, piece)) ∙
     take_all n (take n (drop at file)) (omega (arith, piece)) in
-    ap (λ t. t ++ take n new) is ∙ ap (λ t. take at file ++ t) front ∙ sym (take-add at n file) ∙ ap (λ k. take (at + k) file) same
+    ap (λ t. t ++ take n new) is ∙ ap (λ t. take at file ++ t) prefix ∙ sym (take-add at n file) ∙ ap (λ k. take (at + k) file) same
 
 pub hashed_file : (image : Image) (file place digest kept : List ℕ) → file ≡ place → digest ≡ sha256 (image file) → digest ≡ kept → sha256 (image place) ≡ kept
 hashed_file image file place digest kept is hashed same = ap (λ (f : List ℕ). sha256 (image f)) (sym is) ∙ sym hashed ∙ same
 
-pub said_of : (lines : Table (List ℕ × List ℕ)) (o p : Option (List ℕ × List ℕ)) → o ≡ p → Audits lines o → Audits lines p
-said_of lines o p is said = subst (λ (x : Option (List ℕ × List ℕ)). Audits lines x) is said
+pub said_of : (lines : Table (List ℕ × List ℕ)) (o p : Option (List ℕ × List ℕ)) → o ≡ p → AuditOutcome lines o → AuditOutcome lines p
+said_of lines o p is said = subst (λ (x : Option (List ℕ × List ℕ)). AuditOutcome lines x) is said
 
-pub pending_said : {E : Type 0} (image : Image) (d : Device) (r : Result (Option (List ℕ × List ℕ)) E) → Audits (items_lines image d.set) None →
-    IfOk r (Audits (items_lines image (pending_items d.pending)))
-    → IfOk r (Audits (items_lines image (items_of d)))
+pub pending_said : {E : Type 0} (image : Image) (d : Device) (r : Result (Option (List ℕ × List ℕ)) E) → AuditOutcome (items_lines image d.set) None →
+    IfOk r (AuditOutcome (items_lines image (pending_items d.pending)))
+    → IfOk r (AuditOutcome (items_lines image (items_of d)))
 pending_said image d (Ok found) holds said = pending_found image d found holds said
 pending_said image d (Err e) holds said = tt

@@ -6,35 +6,35 @@ use Rattle.std.proofs.lemmas.List.{append-nil, length-drop, take_all, drop_all, 
 use Rattle.std.proofs.Math.Seq.{drop-append_seam}
 use Rattle.sha2.specs.Sha256.{sha256}
 use Rattle.nuc_base.specs.Tables.{IsFirst, AllHold}
-use Rattle.disk_model.specs.Disk.{Image, Holds, Step, After}
-use Rattle.disk_model.specs.Spares.{Spares, IsFile}
+use Rattle.disk_model.specs.Disk.{Image, IsPutAt, Step, IsAfter}
+use Rattle.disk_model.specs.Spares.{IsSameBut, IsFile}
 use Rattle.library_core.specs.Library.{IsPart, IsPieceOf, IsWithin}
 use Rattle.library_core.specs.declared.library.Piece.{Piece}
 use Rattle.library_core.specs.declared.library.Piece.TheVariants.{Missing, Bytes}
 use Rattle.artifact_store.specs.Filled.{IsDigestOf}
-use Rattle.artifact_store.specs.Staged.{Counts, StagesBy, IsOutside, found_lines, most_bytes}
+use Rattle.artifact_store.specs.Staged.{HasCounted, StagesBy, IsOutside, found_lines, most_bytes}
 use Rattle.artifact_store.specs.declared.fault.StageFault.{StageFault}
 use Rattle.artifact_store.specs.declared.fault.StageFault.TheVariants as fault
 use Rattle.artifact_store.proofs.Counting.{counts_good, counts_own}
 
--- these bytes stand at the front of the library's, where it has some
-abbrev pub IsFront : Option (List ℕ) → List ℕ → Type 0
-IsFront None m = ⊤
-IsFront (Some bytes) m = (rest : List ℕ) × (bytes ≡ m ++ rest)
+-- these bytes stand at the beginning of the library's, where it has some
+abbrev pub IsFoundPrefix : Option (List ℕ) → List ℕ → Type 0
+IsFoundPrefix None m = ⊤
+IsFoundPrefix (Some bytes) m = (rest : List ℕ) × (bytes ≡ m ++ rest)
 
-pub front_none : (found : Option (List ℕ)) → IsFront found []
-front_none None = tt
-front_none (Some bytes) = (bytes, refl)
+pub prefix_none : (found : Option (List ℕ)) → IsFoundPrefix found []
+prefix_none None = tt
+prefix_none (Some bytes) = (bytes, refl)
 
 -- a write at the end of a file adds to it
-pub written : (m bytes new : List ℕ) → Holds (length m) bytes m new → new ≡ m ++ bytes
+pub written : (m bytes new : List ℕ) → IsPutAt (length m) bytes m new → new ≡ m ++ bytes
 written m bytes new h =
     let back : drop (length m + length bytes) m ≡ [] = drop_all (length m + length bytes) m (omega arith) in
-    let front : take (length m) m ≡ m = take_all (length m) m (omega arith) in
-    h ∙ ap (λ t. t ++ bytes ++ drop (length m + length bytes) m) front ∙ ap (λ t. m ++ bytes ++ t) back ∙ append_assoc m bytes [] ∙ ap (λ t. m ++ t)
+    let prefix : take (length m) m ≡ m = take_all (length m) m (omega arith) in
+    h ∙ ap (λ t. t ++ bytes ++ drop (length m + length bytes) m) prefix ∙ ap (λ t. m ++ bytes ++ t) back ∙ append_assoc m bytes [] ∙ ap (λ t. m ++ t)
     (append-nil bytes)
 
--- what a call put at the front of the slice
+-- what a call put at the beginning of the slice
 part_is : (bytes old new : List ℕ) (start n : ℕ) → IsPart bytes start old new n → take n new ≡ take n (drop start bytes)
 part_is bytes old new start n p =
     let piece = take n (drop start bytes) in
@@ -46,13 +46,13 @@ part_is bytes old new start n p =
 rest_is : (bytes m rest : List ℕ) → bytes ≡ m ++ rest → drop (length m) bytes ≡ rest
 rest_is bytes m rest is = ap (drop (length m)) is ∙ drop-append_seam m rest
 
-pub front_more : (found : Option (List ℕ)) (m old new : List ℕ) (n : ℕ) → IsPieceOf found (length m) old new (Bytes n) → IsFront found m →
-    IsFront found (m ++ take n new)
-front_more None m old new n p front = absurd p
-front_more (Some bytes) m old new n p front =
-    let rest = front.0 in
-    let piece : take n new ≡ take n rest = part_is bytes old new (length m) n p ∙ ap (take n) (rest_is bytes m rest front.1) in
-    let whole : bytes ≡ (m ++ take n rest) ++ drop n rest = front.1 ∙ ap (λ t. m ++ t) (sym (take-append-drop n rest)) ∙ sym
+pub prefix_more : (found : Option (List ℕ)) (m old new : List ℕ) (n : ℕ) → IsPieceOf found (length m) old new (Bytes n) → IsFoundPrefix found m →
+    IsFoundPrefix found (m ++ take n new)
+prefix_more None m old new n p prefix = absurd p
+prefix_more (Some bytes) m old new n p prefix =
+    let rest = prefix.0 in
+    let piece : take n new ≡ take n rest = part_is bytes old new (length m) n p ∙ ap (take n) (rest_is bytes m rest prefix.1) in
+    let whole : bytes ≡ (m ++ take n rest) ++ drop n rest = prefix.1 ∙ ap (λ t. m ++ t) (sym (take-append-drop n rest)) ∙ sym
     (append_assoc m (take n rest) (drop n rest)) in
     (drop n rest, whole ∙ ap (λ t. (m ++ t) ++ drop n rest) (sym piece))
 
@@ -62,8 +62,9 @@ end_is m bytes [] is short = sym (is ∙ append-nil m)
 end_is m bytes (b ∷ rest) is short = absurd (let long : length bytes ≡ length m + length (b ∷ rest) = ap length is ∙ length-append m (b ∷ rest) in
     omega (arith, long, short))
 
-pub front_end : (bytes m old new : List ℕ) → IsPart bytes (length m) old new 0 → 0 < length old → IsFront (Some bytes) m → m ≡ bytes
-front_end bytes m old new p some front = elim (p.some refl) [ inl none ↦ absurd (omega (arith, none, some)) | inr past ↦ end_is m bytes front.0 front.1 past ]
+pub prefix_end : (bytes m old new : List ℕ) → IsPart bytes (length m) old new 0 → 0 < length old → IsFoundPrefix (Some bytes) m → m ≡ bytes
+prefix_end bytes m old new p some prefix =
+    elim (p.some refl) [ inl none ↦ absurd (omega (arith, none, some)) | inr past ↦ end_is m bytes prefix.0 prefix.1 past ]
 
 -- what copying answers, by what the last call gave
 
@@ -80,38 +81,39 @@ piece_at : (found : Option (List ℕ)) (m old new : List ℕ) (at n : ℕ) (piec
 piece_at found m old new at n piece p is long = subst (λ (a : ℕ). IsPieceOf found a old new (Bytes n)) (sym long)
     (subst (λ (x : Piece). IsPieceOf found at old new x) is p)
 
-pub front_next : (found : Option (List ℕ)) (m old new : List ℕ) (at n : ℕ) (piece : Piece) → IsPieceOf found at old new piece → piece ≡ Bytes n →
-    length m ≡ at → IsFront found m → IsFront found (m ++ take n new)
-front_next found m old new at n piece p is long front = front_more found m old new n (piece_at found m old new at n piece p is long) front
+pub prefix_next : (found : Option (List ℕ)) (m old new : List ℕ) (at n : ℕ) (piece : Piece) → IsPieceOf found at old new piece → piece ≡ Bytes n →
+    length m ≡ at → IsFoundPrefix found m → IsFoundPrefix found (m ++ take n new)
+prefix_next found m old new at n piece p is long prefix = prefix_more found m old new n (piece_at found m old new at n piece p is long) prefix
 
-long_answer : (found : Option (List ℕ)) (file name m old new : List ℕ) (n : ℕ) → IsPieceOf found (length m) old new (Bytes n) → IsFront found m →
+long_answer : (found : Option (List ℕ)) (file name m old new : List ℕ) (n : ℕ) → IsPieceOf found (length m) old new (Bytes n) → IsFoundPrefix found m →
     most_bytes < length m + n → name ≡ file
     → StagesBy (found_lines file None found) (IsDigestOf found) (Err (fault.TooLarge name most_bytes))
-long_answer None file name m old new n p front more same = absurd p
-long_answer (Some bytes) file name m old new n p front more same =
-    let within : n ≤ length front.0 = subst (λ (l : List ℕ). n ≤ length l) (rest_is bytes m front.0 front.1) p.within in
-    let long : length bytes ≡ length m + length front.0 = ap length front.1 ∙ length-append m front.0 in
+long_answer None file name m old new n p prefix more same = absurd p
+long_answer (Some bytes) file name m old new n p prefix more same =
+    let within : n ≤ length prefix.0 = subst (λ (l : List ℕ). n ≤ length l) (rest_is bytes m prefix.0 prefix.1) p.within in
+    let long : length bytes ≡ length m + length prefix.0 = ap length prefix.1 ∙ length-append m prefix.0 in
     inr (inl ((λ short. omega (arith, within, long, more, short)), ap (λ (t : List ℕ). fault.TooLarge t most_bytes) same))
 
 pub copied_long : (found : Option (List ℕ)) (file name m old new : List ℕ) (at n : ℕ) (piece : Piece) → IsPieceOf found at old new piece → piece ≡ Bytes n →
-    length m ≡ at → IsFront found m → most_bytes < length m + n → name ≡ file
+    length m ≡ at → IsFoundPrefix found m → most_bytes < length m + n → name ≡ file
     → StagesBy (found_lines file None found) (IsDigestOf found) (Err (fault.TooLarge name most_bytes))
-copied_long found file name m old new at n piece p is long front more same =
-    long_answer found file name m old new n (piece_at found m old new at n piece p is long) front more same
+copied_long found file name m old new at n piece p is long prefix more same =
+    long_answer found file name m old new n (piece_at found m old new at n piece p is long) prefix more same
 
-all_answer : (found : Option (List ℕ)) (file m old new digest : List ℕ) → IsPieceOf found (length m) old new (Bytes 0) → IsFront found m → 0 < length old →
+all_answer : (found : Option (List ℕ)) (file m old new digest : List ℕ) → IsPieceOf found (length m) old new (Bytes 0) → IsFoundPrefix found m
+    → 0 < length old →
     length m ≤ most_bytes → digest ≡ sha256 m
     → StagesBy (found_lines file None found) (IsDigestOf found) (Ok digest)
-all_answer None file m old new digest p front some short is = absurd p
-all_answer (Some bytes) file m old new digest p front some short is =
-    let same : m ≡ bytes = front_end bytes m old new p some front in
+all_answer None file m old new digest p prefix some short is = absurd p
+all_answer (Some bytes) file m old new digest p prefix some short is =
+    let same : m ≡ bytes = prefix_end bytes m old new p some prefix in
     ((subst (λ (l : List ℕ). length l ≤ most_bytes) same short, (tt, tt)), is ∙ ap sha256 same)
 
 pub copied_all : (found : Option (List ℕ)) (file m old new digest : List ℕ) (at n : ℕ) (piece : Piece) → IsPieceOf found at old new piece → piece ≡ Bytes n →
-    n ≡ 0 → length m ≡ at → IsFront found m → 0 < length old
+    n ≡ 0 → length m ≡ at → IsFoundPrefix found m → 0 < length old
     → length m ≤ most_bytes → digest ≡ sha256 m → StagesBy (found_lines file None found) (IsDigestOf found) (Ok digest)
-copied_all found file m old new digest at n piece p is none long front some short hashed =
-    all_answer found file m old new digest (piece_at found m old new at 0 piece p (is ∙ ap (λ (k : ℕ). Bytes k) none) long) front some short hashed
+copied_all found file m old new digest at n piece p is none long prefix some short hashed =
+    all_answer found file m old new digest (piece_at found m old new at 0 piece p (is ∙ ap (λ (k : ℕ). Bytes k) none) long) prefix some short hashed
 
 -- ---- what is asked at the end of what may be
 
@@ -152,24 +154,24 @@ sized_good value found file old new most n piece is p gave none room =
 -- ---- the file that is written
 
 pub written_more : (old new : Image) (file target m bytes : List ℕ) (at : ℕ) → file ≡ target → length m ≡ at → old target ≡ m →
-    Holds at bytes (old file) (new file) → new target ≡ m ++ bytes
+    IsPutAt at bytes (old file) (new file) → new target ≡ m ++ bytes
 written_more old new file target m bytes at same long is h =
-    let there : Holds at bytes (old target) (new target) = subst (λ (f : List ℕ). Holds at bytes (old f) (new f)) same h in
-    let placed : Holds (length m) bytes (old target) (new target) = subst (λ (a : ℕ). Holds a bytes (old target) (new target)) (sym long) there in
-    written m bytes (new target) (subst (λ (x : List ℕ). Holds (length m) bytes x (new target)) is placed)
+    let there : IsPutAt at bytes (old target) (new target) = subst (λ (f : List ℕ). IsPutAt at bytes (old f) (new f)) same h in
+    let placed : IsPutAt (length m) bytes (old target) (new target) = subst (λ (a : ℕ). IsPutAt a bytes (old target) (new target)) (sym long) there in
+    written m bytes (new target) (subst (λ (x : List ℕ). IsPutAt (length m) bytes x (new target)) is placed)
 
 -- a change of the file, by another name for it
 pub file_step : (images : Image → Type 0) (file target : List ℕ) (change : List ℕ → List ℕ → Type 0) → file ≡ target → (c : Image) →
-    After images (Step file change) c → After images (Spares (IsFile target)) c
+    IsAfter images (Step file change) c → IsAfter images (IsSameBut (IsFile target)) c
 file_step images file target change same c was = (was.0, was.1, λ name ne. was.2.others name (λ is. ne (is ∙ same)))
 
 pub file_seen : (old new : Image) (file target : List ℕ) (change : List ℕ → List ℕ → Type 0) → file ≡ target → Step file change old new →
-    Spares (IsFile target) old new
+    IsSameBut (IsFile target) old new
 file_seen old new file target change same step name ne = step.others name (λ is. ne (is ∙ same))
 
 -- what a vector holds whose bytes were written over as a slice
-pub front_kept : (into items read : List ℕ) (k : ℕ) → read ≡ take k (into ++ drop (length into) items) → length into ≡ k → read ≡ into
-front_kept into items read k is long = is ∙ take-append-le k into (drop (length into) items) (omega (arith, long)) ∙ take_all k into (omega (arith, long))
+pub prefix_kept : (into items read : List ℕ) (k : ℕ) → read ≡ take k (into ++ drop (length into) items) → length into ≡ k → read ≡ into
+prefix_kept into items read k is long = is ∙ take-append-le k into (drop (length into) items) (omega (arith, long)) ∙ take_all k into (omega (arith, long))
 
 -- ---- the digest that is given
 
@@ -239,7 +241,7 @@ agreed_held P Q digest (Ok d) agree p = subst P (sym agree.0) p
 agreed_held P Q digest (Err f) agree p = tt
 
 pub agreed_counts : (d e l m : ℕ) (target digest : List ℕ) (P : Type 0) (r : Result (List ℕ) StageFault) →
-    IfErr r (λ f. (f ≡ fault.Mismatch target digest) × P) → e ≡ d → m ≡ l → Counts d e l m r
+    IfErr r (λ f. (f ≡ fault.Mismatch target digest) × P) → e ≡ d → m ≡ l → HasCounted d e l m r
 agreed_counts d e l m target digest P (Ok digests) differ disk library = counts_good d e l m digests disk library
 agreed_counts d e l m target digest P (Err f) differ disk library = counts_own d e l m (Err f) (fault.Mismatch target digest) (λ is. cc is)
     (λ is. cc is) differ.0 disk library

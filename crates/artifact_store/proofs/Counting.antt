@@ -3,12 +3,12 @@ use Rattle.std.proofs.Common.{◌≡◌, ◌⊎◌, ℕ, ◌≤◌, List, ◌∷
 use Rattle.std.specs.Prelude.{Result, Ok, Err}
 use Rattle.std.specs.Result.{IsErrAnd}
 use Rattle.nuc_base.specs.Faults.{Rose, HasCause}
-use Rattle.nuc_base.specs.Tables.{Table, IsFirst, Passes, each}
+use Rattle.nuc_base.specs.Tables.{Table, IsFirst, IsPass, each}
 use Rattle.nuc_base.proofs.Tables.{first_before}
 use Rattle.library_core.specs.declared.library.LibraryFault.{LibraryFault}
 use Rattle.library_core.specs.declared.library.LibraryFault.TheVariants as library
 use Rattle.artifact_store.specs.Faults.{fault_of}
-use Rattle.artifact_store.specs.Staged.{Counts, StagesBy, IsOutside}
+use Rattle.artifact_store.specs.Staged.{HasCounted, StagesBy, IsOutside}
 use Rattle.artifact_store.specs.declared.fault.StageFault.{StageFault}
 use Rattle.artifact_store.specs.declared.fault.StageFault.TheVariants as fault
 
@@ -27,7 +27,7 @@ err_is r f g h is = err_same f g (sym (err_of r f h) ∙ is)
 
 -- neither fault, and neither count rose
 pub counts_still : {A : Type 0} (d e l m : ℕ) (r : Result A StageFault) → (r ≡ Err fault.Disk → ⊥) → (r ≡ Err fault.Library → ⊥) → e ≡ d → m ≡ l →
-    Counts d e l m r
+    HasCounted d e l m r
 counts_still d e l m r no_disk no_library disk library = record {
   disk_cause = λ is. absurd (no_disk is);
   disk_quiet = λ _. disk;
@@ -37,27 +37,27 @@ counts_still d e l m r no_disk no_library disk library = record {
   library_later = omega (arith, library);
 }
 
-pub counts_good : {A : Type 0} (d e l m : ℕ) (value : A) → e ≡ d → m ≡ l → Counts d e l m (Ok value)
+pub counts_good : {A : Type 0} (d e l m : ℕ) (value : A) → e ≡ d → m ≡ l → HasCounted d e l m (Ok value)
 counts_good d e l m value disk library = counts_still d e l m (Ok value) (λ is. cc is) (λ is. cc is) disk library
 
 -- any fault but those two
 pub counts_own : {A : Type 0} (d e l m : ℕ) (r : Result A StageFault) (f : StageFault) → (f ≡ fault.Disk → ⊥) → (f ≡ fault.Library → ⊥) →
-    IsErrAnd r (λ g. g ≡ f) → e ≡ d → m ≡ l → Counts d e l m r
+    IsErrAnd r (λ g. g ≡ f) → e ≡ d → m ≡ l → HasCounted d e l m r
 counts_own d e l m r f no_disk no_library h disk library = counts_still d e l m r (λ is. no_disk (err_is r f fault.Disk h is))
     (λ is. no_library (err_is r f fault.Library h is)) disk library
 
-pub counts_memory : {A : Type 0} (d e l m : ℕ) (r : Result A StageFault) → IsErrAnd r (λ g. g ≡ fault.NoMemory) → e ≡ d → m ≡ l → Counts d e l m r
+pub counts_memory : {A : Type 0} (d e l m : ℕ) (r : Result A StageFault) → IsErrAnd r (λ g. g ≡ fault.NoMemory) → e ≡ d → m ≡ l → HasCounted d e l m r
 counts_memory d e l m r h disk library = counts_own d e l m r fault.NoMemory (λ is. cc is) (λ is. cc is) h disk library
 
-pub counts_missing : {A : Type 0} (d e l m : ℕ) (file : List ℕ) → e ≡ d → m ≡ l → Counts {A = A} d e l m (Err (fault.Missing file))
+pub counts_missing : {A : Type 0} (d e l m : ℕ) (file : List ℕ) → e ≡ d → m ≡ l → HasCounted {A = A} d e l m (Err (fault.Missing file))
 counts_missing d e l m file disk library = counts_own d e l m (Err (fault.Missing file)) (fault.Missing file) (λ is. cc is) (λ is. cc is) refl disk library
 
-pub counts_long : {A : Type 0} (d e l m : ℕ) (file : List ℕ) (n : ℕ) → e ≡ d → m ≡ l → Counts {A = A} d e l m (Err (fault.TooLarge file n))
+pub counts_long : {A : Type 0} (d e l m : ℕ) (file : List ℕ) (n : ℕ) → e ≡ d → m ≡ l → HasCounted {A = A} d e l m (Err (fault.TooLarge file n))
 counts_long d e l m file n disk library = counts_own d e l m (Err (fault.TooLarge file n)) (fault.TooLarge file n) (λ is. cc is) (λ is. cc is) refl disk library
 
 -- the disk's fault
 pub counts_disk : {A B E : Type 0} (d e l m : ℕ) (r : Result A StageFault) (g : E) → IsErrAnd r (λ f. f ≡ fault.Disk) → HasCause {T = B} d e (Err g) → m ≡ l →
-    Counts d e l m r
+    HasCounted d e l m r
 counts_disk d e l m r g h cause library = record {
   disk_cause = λ _. cause.failed;
   disk_quiet = λ other. absurd (other (err_of r fault.Disk h));
@@ -70,7 +70,7 @@ counts_disk d e l m r g h cause library = record {
 -- the library's fault
 pub counts_library : {A B : Type 0} (d e l m : ℕ) (r : Result A StageFault) (g : LibraryFault) → IsErrAnd r (λ f. f ≡ fault_of g)
     → (◌≡◌ {A = Result B LibraryFault} (Err g) (Err library.Failed) → Rose l m) → ((◌≡◌ {A = Result B LibraryFault} (Err g) (Err library.Failed) → ⊥) → m ≡ l)
-    → l ≤ m → e ≡ d → Counts d e l m r
+    → l ≤ m → e ≡ d → HasCounted d e l m r
 counts_library d e l m r library.Failed h cause quiet later disk = record {
   disk_cause = λ is. absurd (let both : fault.Library ≡ fault.Disk = err_is r fault.Library fault.Disk h is in cc both);
   disk_quiet = λ _. disk;
@@ -82,8 +82,8 @@ counts_library d e l m r library.Failed h cause quiet later disk = record {
 counts_library d e l m r library.NoMemory h cause quiet later disk = counts_memory d e l m r h disk (quiet (λ is. cc is))
 
 -- a fault that is handed on
-pub counts_handed : {A B : Type 0} (d e l m : ℕ) (r : Result A StageFault) (f : StageFault) → IsErrAnd r (λ g. g ≡ f) → Counts {A = B} d e l m (Err f) →
-    Counts d e l m r
+pub counts_handed : {A B : Type 0} (d e l m : ℕ) (r : Result A StageFault) (f : StageFault) → IsErrAnd r (λ g. g ≡ f) → HasCounted {A = B} d e l m (Err f) →
+    HasCounted d e l m r
 counts_handed d e l m r f h counts = record {
   disk_cause = λ is. counts.disk_cause (ap Err (err_is r f fault.Disk h is));
   disk_quiet = λ other. counts.disk_quiet (λ is. other (err_of r f h ∙ ap Err (err_same f fault.Disk is)));
@@ -94,13 +94,13 @@ counts_handed d e l m r f h counts = record {
 }
 
 -- after calls in which neither count rose
-pub counts_after : {A : Type 0} (c d e k l m : ℕ) (r : Result A StageFault) → d ≡ c → l ≡ k → Counts d e l m r → Counts c e k m r
-counts_after c d e k l m r disk library counts = subst (λ (x : ℕ). Counts x e k m r) disk (subst (λ (y : ℕ). Counts d e y m r) library counts)
+pub counts_after : {A : Type 0} (c d e k l m : ℕ) (r : Result A StageFault) → d ≡ c → l ≡ k → HasCounted d e l m r → HasCounted c e k m r
+counts_after c d e k l m r disk library counts = subst (λ (x : ℕ). HasCounted x e k m r) disk (subst (λ (y : ℕ). HasCounted d e y m r) library counts)
 
-pub still_disk : {A : Type 0} (d e l m : ℕ) (value : A) → Counts {A = A} d e l m (Ok value) → e ≡ d
+pub still_disk : {A : Type 0} (d e l m : ℕ) (value : A) → HasCounted {A = A} d e l m (Ok value) → e ≡ d
 still_disk d e l m value counts = counts.disk_quiet (λ is. cc is)
 
-pub still_library : {A : Type 0} (d e l m : ℕ) (value : A) → Counts {A = A} d e l m (Ok value) → m ≡ l
+pub still_library : {A : Type 0} (d e l m : ℕ) (value : A) → HasCounted {A = A} d e l m (Ok value) → m ≡ l
 still_library d e l m value counts = counts.library_quiet (λ is. cc is)
 
 -- ---- the lines
@@ -129,7 +129,7 @@ said_along lines more f along (inr first) = inr (along first)
 
 -- a fault of the lines of the next value
 pub passes_said : {A B : Type 0} (lines : A → Table StageFault) (Is : A → B → Type 0) (all : List A) (x : A) (rest : List A) (done : List B) (f : StageFault)
-    → Passes lines Is all (x ∷ rest) done
+    → IsPass lines Is all (x ∷ rest) done
     → IsOutside f ⊎ IsFirst (lines x) f → IsOutside f ⊎ IsFirst (each lines all) f
 passes_said lines Is all x rest done f passes said = said_along (lines x) (each lines all) f
     (λ first. passes.faults f (first_before (lines x) (each lines rest) f first)) said

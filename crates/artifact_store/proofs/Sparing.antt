@@ -10,10 +10,10 @@ use Rattle.nuc_base.specs.Names.{IsName, is_name_byte}
 use Rattle.npm_ranges.specs.Versions.{IsVersion, is_version_byte}
 use Rattle.npm_ranges.proofs.VersionTexts.{version_bytes}
 use Rattle.sha2.specs.Sha256.{sha256}
-use Rattle.disk_model.specs.Disk.{Image, After, Leaves, DiskLaws}
+use Rattle.disk_model.specs.Disk.{Image, IsAfter, HasLeft, DiskLaws}
 use Rattle.disk_model.specs.Listing.{artifacts, IsBelow}
 use Rattle.disk_model.specs.Moments.{at_start, weaker}
-use Rattle.disk_model.specs.Spares.{Spares}
+use Rattle.disk_model.specs.Spares.{IsSameBut}
 use Rattle.records.specs.Stored.{Item, DraftItem, Draft}
 use Rattle.records.specs.declared.record.Held.{Held}
 use Rattle.device.specs.Devices.{Device, Pending}
@@ -92,11 +92,11 @@ holds_items (i ∷ items) old new same holds = (
 )
 
 pub spared_stay : (items : List Item) (files : List ℕ → Type 0) (old new : Image) → ((file : List ℕ) → IsFileAmong items file → files file → ⊥) →
-    Spares files old new → HoldsItems old items → HoldsItems new items
+    IsSameBut files old new → HoldsItems old items → HoldsItems new items
 spared_stay items files old new apart spares holds = holds_items items old new (λ file among. spares file (apart file among)) holds
 
 pub staging_keeps : (kept : List Item) (draft : Draft) (old new : Image) → AllByRecursion IsNamed kept → AllByRecursion IsNamedDraft draft.items
-    → Spares (IsStaged kept draft) old new → HoldsItems old kept → HoldsItems new kept
+    → IsSameBut (IsStaged kept draft) old new → HoldsItems old kept → HoldsItems new kept
 staging_keeps kept draft old new named drafted spares holds =
     spared_stay kept (IsStaged kept draft) old new (λ file among staged. staging_spares kept draft.items file named drafted among staged) spares holds
 
@@ -113,7 +113,7 @@ pending_keeps : (o : Option Pending) (old new : Image) → ((file : List ℕ) �
 pending_keeps None old new same holds = tt
 pending_keeps (Some q) old new same holds = holds_items q.plan.items old new same holds
 
-pub sweeping_keeps : (d : Device) (old new : Image) → Spares (IsStray (items_of d)) old new → HoldsDevice old d → HoldsDevice new d
+pub sweeping_keeps : (d : Device) (old new : Image) → IsSameBut (IsStray (items_of d)) old new → HoldsDevice old d → HoldsDevice new d
 sweeping_keeps d old new spares holds = record {
   set = holds_items d.set old new (λ file among. spares file (λ stray. stray.1 (among_set d file among))) holds.set;
   pending = pending_keeps d.pending old new (λ file among. spares file (λ stray. stray.1 (among_pending d file among))) holds.pending;
@@ -131,9 +131,9 @@ holds_the_set d image none holds = record { set = holds; pending = no_pending d.
 module _ {D : Type 0} {is_modelled : Bool} {seen : D → Image} {may_leave : D → Image → Type 0} {moment : D → ℕ} {left_since : D → ℕ → Image → Type 0}
     (laws : DiskLaws is_modelled seen may_leave moment left_since) where
   pub staged_safe : (kept : List Item) (draft : Draft) (d : Device) (old new : D) → AllByRecursion IsNamed kept → AllByRecursion IsNamedDraft draft.items
-      → Leaves moment left_since old new (After (may_leave old) (Spares (IsStaged kept draft))) → d.set ≡ kept → d.pending ≡ None →
+      → HasLeft moment left_since old new (IsAfter (may_leave old) (IsSameBut (IsStaged kept draft))) → d.set ≡ kept → d.pending ≡ None →
       AllHoldDevice (may_leave old) d
-      → Leaves moment left_since old new (λ c. HoldsDevice c d)
+      → HasLeft moment left_since old new (λ c. HoldsDevice c d)
   staged_safe kept draft d old new named drafted leaves is none holds =
       weaker laws old new _ _
       (λ c was.
@@ -142,12 +142,12 @@ module _ {D : Type 0} {is_modelled : Bool} {seen : D → Image} {may_leave : D �
       holds_the_set d c none (subst (λ (items : List Item). HoldsItems c items) (sym is) after))
       leaves
 
-  pub swept_safe : (d : Device) (old new : D) → Leaves moment left_since old new (After (may_leave old) (Spares (IsStray (items_of d)))) →
+  pub swept_safe : (d : Device) (old new : D) → HasLeft moment left_since old new (IsAfter (may_leave old) (IsSameBut (IsStray (items_of d)))) →
       AllHoldDevice (may_leave old) d
-      → Leaves moment left_since old new (λ c. HoldsDevice c d)
+      → HasLeft moment left_since old new (λ c. HoldsDevice c d)
   swept_safe d old new leaves holds = weaker laws old new _ _ (λ c was. sweeping_keeps d was.0 c was.2 (holds was.0 was.1)) leaves
 
-  pub still_safe : (d : Device) (old : D) → AllHoldDevice (may_leave old) d → Leaves moment left_since old old (λ c. HoldsDevice c d)
+  pub still_safe : (d : Device) (old : D) → AllHoldDevice (may_leave old) d → HasLeft moment left_since old old (λ c. HoldsDevice c d)
   still_safe d old holds = weaker laws old old _ _ holds (at_start laws old)
 
 -- ---- the folder of the artifacts

@@ -15,10 +15,10 @@ use Rattle.nuc_base.specs.Tables.{Table, each}
 use Rattle.nuc_base.specs.declared.artifact.Artifact.{Artifact}
 use Rattle.disk_model.specs.Disk.{Image}
 use Rattle.disk_model.specs.Listing.{artifacts}
-use Rattle.disk_model.specs.Spares.{Spares, IsFile}
+use Rattle.disk_model.specs.Spares.{IsSameBut, IsFile}
 use Rattle.records.specs.Stored.{Item, DraftItem}
 use Rattle.records.specs.declared.record.Held.{Held}
-use Rattle.device.specs.Plans.{Rise}
+use Rattle.device.specs.Plans.{AreRising}
 use Rattle.artifact_store.specs.Holding.{HoldsFile, HoldsFiles, HoldsItem, HoldsItems}
 use Rattle.artifact_store.specs.Paths.{path, IsNamed, IsNamedDraft}
 use Rattle.recipe_reader.specs.Sound.{artifact_file}
@@ -64,7 +64,7 @@ unfolding IsDistinct
 risen_from [] distinct = tt
 risen_from (x ∷ xs) distinct = (others_risen x xs distinct.0, risen_from xs distinct.1)
 
-pub differ_risen : (xs : List (List ℕ)) → Rise xs → Differ xs
+pub differ_risen : (xs : List (List ℕ)) → AreRising xs → Differ xs
 differ_risen xs rise = risen_from xs (IsDistinct-from_sorted (slice_cmp nat_cmp) xs rise)
 
 -- none of these is the text
@@ -114,7 +114,7 @@ file_of name version f g e =
     append_cancel_left (47 ∷ []) _ _ versioned
 
 others_hold : (name version file : List ℕ) (helds : List Held) (old new : Image) → AllByRecursion (λ h. h.file ≢ file) helds →
-    Spares (IsFile (path name version file)) old new
+    IsSameBut (IsFile (path name version file)) old new
     → HoldsFiles old name version helds → HoldsFiles new name version helds
 others_hold name version file [] old new differ spares holds = tt
 others_hold name version file (h ∷ helds) old new differ spares holds = (
@@ -125,7 +125,7 @@ others_hold name version file (h ∷ helds) old new differ spares holds = (
 -- a file more: the others stay, and it has its digest
 pub files_more : (name version : List ℕ) (a : Artifact) (ones : List Artifact) (helds : List Held) (h : Held) (old new : Image)
     → Apart (λ (g : Held). g.file) artifact_file helds (a ∷ ones) → h.file ≡ a.file → sha256 (new (path name version a.file)) ≡ h.digest
-    → Spares (IsFile (path name version a.file)) old new → HoldsFiles old name version helds → HoldsFiles new name version (helds ++ h ∷ [])
+    → IsSameBut (IsFile (path name version a.file)) old new → HoldsFiles old name version helds → HoldsFiles new name version (helds ++ h ∷ [])
 files_more name version a ones helds h old new apart same digest spares holds =
     push_each (HoldsFile new name version) helds h (others_hold name version a.file helds old new
     (heads_apart (λ (g : Held). g.file) artifact_file helds a ones apart) spares holds)
@@ -136,7 +136,7 @@ files_more name version a ones helds h old new apart same digest spares holds =
 -- what an image holds of items with other names stays, whatever becomes of an item's files
 pub items_stay : (kept : List Item) (i : DraftItem) (items : List Item) (old new : Image) → AllByRecursion IsNamed items → IsNamedDraft i →
     AllByRecursion (λ o. o.name ≢ i.name) items
-    → Spares (IsStagedOf kept i) old new → HoldsItems old items → HoldsItems new items
+    → IsSameBut (IsStagedOf kept i) old new → HoldsItems old items → HoldsItems new items
 items_stay kept i [] old new named drafted differ spares holds = tt
 items_stay kept i (o ∷ items) old new named drafted differ spares holds = (
   holds_files o.name o.version o.artifacts old new
@@ -146,7 +146,7 @@ items_stay kept i (o ∷ items) old new named drafted differ spares holds = (
 )
 
 -- what an image holds of the kept items stays
-pub kept_stay : (kept : List Item) (i : DraftItem) (old new : Image) → AllByRecursion IsNamed kept → IsNamedDraft i → Spares (IsStagedOf kept i) old new →
+pub kept_stay : (kept : List Item) (i : DraftItem) (old new : Image) → AllByRecursion IsNamed kept → IsNamedDraft i → IsSameBut (IsStagedOf kept i) old new →
     HoldsItems old kept → HoldsItems new kept
 kept_stay kept i old new named drafted spares holds =
     holds_items kept old new (λ file among. spares file (λ staged. staging_spares kept (i ∷ []) file named (drafted, tt) among (i, in_here i [], staged))) holds

@@ -4,9 +4,9 @@ use Rattle.std.specs.Prelude.{Bool, true, false, IsTrue}
 use Rattle.std.specs.List.{Contains}
 use Rattle.std.proofs.lemmas.List.{take_more}
 use Rattle.std.proofs.lemmas.List.Elements.{Contains-push_cases}
-use Rattle.disk_model.specs.Disk.{Image, After, Leaves, DiskLaws}
+use Rattle.disk_model.specs.Disk.{Image, IsAfter, HasLeft, DiskLaws}
 use Rattle.disk_model.specs.Moments.{weaker, then_spares, tells_of}
-use Rattle.disk_model.specs.Spares.{Spares}
+use Rattle.disk_model.specs.Spares.{IsSameBut}
 use Rattle.disk_model.specs.Listing.{artifacts, IsListing}
 use Rattle.records.specs.Stored.{Item}
 use Rattle.artifact_store.specs.Needed.{is_file_among}
@@ -14,14 +14,15 @@ use Rattle.artifact_store.specs.Paths.{IsFileAmong}
 use Rattle.artifact_store.specs.Swept.{IsStray, IsSwept, IsUnneeded}
 use Rattle.artifact_store.proofs.Needing.{among_found, not_among}
 
-less_next : (files : List ℕ → Type 0) (mid new : Image) → ((f : List ℕ) → files f → new f ≡ []) → Spares files mid new → (f : List ℕ) → new f ≢ [] → mid f ≢ []
+less_next : (files : List ℕ → Type 0) (mid new : Image) → ((f : List ℕ) → files f → new f ≡ []) → IsSameBut files mid new → (f : List ℕ) → new f ≢ []
+    → mid f ≢ []
 less_next files mid new gone spares f some empty = some (spares f (λ is. some (gone f is)) ∙ empty)
 
 gone_is : (needed : Bool) (x : List ℕ) (new : Image) → (needed ≡ false → new x ≡ []) → (f : List ℕ) → IsUnneeded needed x f → new f ≡ []
 gone_is needed x new gone f is = ap new is.1 ∙ gone is.0
 
 -- a file that is swept, or left since it is needed
-pub still_less : (needed : Bool) (x : List ℕ) (mid new : Image) → (needed ≡ false → new x ≡ []) → Spares (IsUnneeded needed x) mid new → (f : List ℕ) →
+pub still_less : (needed : Bool) (x : List ℕ) (mid new : Image) → (needed ≡ false → new x ≡ []) → IsSameBut (IsUnneeded needed x) mid new → (f : List ℕ) →
     new f ≢ [] → mid f ≢ []
 still_less needed x mid new gone spares f some = less_next (IsUnneeded needed x) mid new (gone_is needed x new gone) spares f some
 
@@ -31,7 +32,7 @@ one_gone items f true new is gone some = among_found items f (sym is)
 one_gone items f false new is gone some = absurd (some (gone refl))
 
 pub gone_next : (items : List Item) (xs : List (List ℕ)) (i : ℕ) (x : List ℕ) (needed : Bool) (mid new : Image) → i < length xs → x ≡ get_or xs i x →
-    needed ≡ is_file_among items x → (needed ≡ false → new x ≡ []) → Spares (IsUnneeded needed x) mid new
+    needed ≡ is_file_among items x → (needed ≡ false → new x ≡ []) → IsSameBut (IsUnneeded needed x) mid new
     → ((f : List ℕ) → Contains (take i xs) f → mid f ≢ [] → IsFileAmong items f) → (f : List ℕ) → Contains (take (i + 1) xs) f → new f ≢ [] →
     IsFileAmong items f
 gone_next items xs i x needed mid new below at is gone spares so f has some =
@@ -49,15 +50,16 @@ stray_of items names image x needed listing has is name un =
     subst (λ (y : List ℕ). IsStray items y) (sym un.1) (((listing.exact x).0 has).0, not_among items x (sym is ∙ un.0))
 
 pub spares_told : (is_modelled : Type 0) (fewer files : List ℕ → Type 0) (old mid new : Image) → is_modelled →
-    (is_modelled → (name : List ℕ) → fewer name → files name) → Spares files old mid → Spares fewer mid new → Spares files old new
+    (is_modelled → (name : List ℕ) → fewer name → files name) → IsSameBut files old mid → IsSameBut fewer mid new → IsSameBut files old new
 spares_told is_modelled fewer files old mid new told wider first second name spared = second name (λ is. spared (wider told name is)) ∙ first name spared
 
 module _ {D : Type 0} {is_modelled : Bool} {seen : D → Image} {may_leave : D → Image → Type 0} {moment : D → ℕ} {left_since : D → ℕ → Image → Type 0}
     (laws : DiskLaws is_modelled seen may_leave moment left_since) where
   -- a call that changes some of the files, as is known where the disk tells
   pub told_spares : (fewer files : List ℕ → Type 0) (old mid new : D) → (IsTrue is_modelled → (name : List ℕ) → fewer name → files name) →
-      Leaves moment left_since old mid (After (may_leave old) (Spares files))
-      → Leaves moment left_since mid new (After (may_leave mid) (Spares fewer)) → Leaves moment left_since old new (After (may_leave old) (Spares files))
+      HasLeft moment left_since old mid (IsAfter (may_leave old) (IsSameBut files))
+      → HasLeft moment left_since mid new (IsAfter (may_leave mid) (IsSameBut fewer))
+      → HasLeft moment left_since old new (IsAfter (may_leave old) (IsSameBut files))
   told_spares fewer files old mid new wider first second =
       then_spares laws files old mid new first
       (weaker laws mid new _ _ (λ c was. (was.0, was.1, λ name spared. was.2 name (λ is. spared (wider (tells_of laws mid was.0 was.1) name is)))) second)

@@ -13,14 +13,14 @@ use Rattle.npm_ranges.specs.Versions.{IsVersion}
 use Rattle.nuc_base.specs.Tables.{AllHold}
 use Rattle.nuc_base.specs.declared.artifact.Artifact.{Artifact}
 use Rattle.sha2.specs.Sha256.{sha256}
-use Rattle.disk_model.specs.Disk.{Image, After, Leaves, DiskLaws}
+use Rattle.disk_model.specs.Disk.{Image, IsAfter, HasLeft, DiskLaws}
 use Rattle.disk_model.specs.Moments.{now, at_start, weaker, then_spares, none_spares, spares_more}
-use Rattle.disk_model.specs.Spares.{Spares, IsFile}
+use Rattle.disk_model.specs.Spares.{IsSameBut, IsFile}
 use Rattle.library_core.specs.Library.{Content}
 use Rattle.records.specs.Stored.{Item, DraftItem}
 use Rattle.records.specs.declared.record.Held.{Held}
 use Rattle.device.specs.Plans.{IsHeldFor}
-use Rattle.device.specs.Filled.{FillsItem}
+use Rattle.device.specs.Filled.{ItemFilled}
 use Rattle.artifact_store.specs.Filled.{FillsFile, IsDigestOf}
 use Rattle.recipe_reader.specs.Sound.{artifact_file}
 use Rattle.artifact_store.specs.Staged.{KeepsFiles, is_same, is_kept, IsNew, HasKeptFile, IsGiven, IsStagedOf, StagesBy, item_lines}
@@ -125,23 +125,24 @@ kept_stages l kept i Is value h is = (none_hold l kept i h, is)
 -- before the first call
 module _ {D : Type 0} {is_modelled : Bool} {seen : D → Image} {may_leave : D → Image → Type 0} {moment : D → ℕ} {left_since : D → ℕ → Image → Type 0}
     (laws : DiskLaws is_modelled seen may_leave moment left_since) where
-  pub start_spares : (files : List ℕ → Type 0) (d : D) → Leaves moment left_since d d (After (may_leave d) (Spares files))
+  pub start_spares : (files : List ℕ → Type 0) (d : D) → HasLeft moment left_since d d (IsAfter (may_leave d) (IsSameBut files))
   start_spares files d = weaker laws d d _ _ (none_spares (may_leave d) files) (at_start laws d)
 
   -- a call that changes some of the files
   pub wider_spares : (fewer files : List ℕ → Type 0) (old new : D) → ((name : List ℕ) → fewer name → files name) →
-      Leaves moment left_since old new (After (may_leave old) (Spares fewer))
-      → Leaves moment left_since old new (After (may_leave old) (Spares files))
+      HasLeft moment left_since old new (IsAfter (may_leave old) (IsSameBut fewer))
+      → HasLeft moment left_since old new (IsAfter (may_leave old) (IsSameBut files))
   wider_spares fewer files old new wider leaves = weaker laws old new _ _ (spares_more (may_leave old) fewer files wider) leaves
 
   pub more_spares : (fewer files : List ℕ → Type 0) (old mid new : D) → ((name : List ℕ) → fewer name → files name) →
-      Leaves moment left_since old mid (After (may_leave old) (Spares files))
-      → Leaves moment left_since mid new (After (may_leave mid) (Spares fewer)) → Leaves moment left_since old new (After (may_leave old) (Spares files))
+      HasLeft moment left_since old mid (IsAfter (may_leave old) (IsSameBut files))
+      → HasLeft moment left_since mid new (IsAfter (may_leave mid) (IsSameBut fewer))
+      → HasLeft moment left_since old new (IsAfter (may_leave old) (IsSameBut files))
   more_spares fewer files old mid new wider first second = then_spares laws files old mid new first (wider_spares fewer files mid new wider second)
 
   -- a file more is held
   pub held_more : (name version : List ℕ) (a : Artifact) (ones : List Artifact) (helds : List Held) (h : Held) (mid new : D)
-      → Leaves moment left_since mid new (After (may_leave mid) (Spares (IsFile (path name version a.file)))) →
+      → HasLeft moment left_since mid new (IsAfter (may_leave mid) (IsSameBut (IsFile (path name version a.file)))) →
       Apart (λ (g : Held). g.file) artifact_file helds (a ∷ ones) → h.file ≡ a.file
       → ((c : Image) → may_leave new c → sha256 (c (path name version a.file)) ≡ h.digest) → ((c : Image) → may_leave mid c → HoldsFiles c name version helds)
       → (c : Image) → may_leave new c → HoldsFiles c name version (helds ++ h ∷ [])
@@ -151,7 +152,7 @@ module _ {D : Type 0} {is_modelled : Bool} {seen : D → Image} {may_leave : D �
 
   -- the kept items stay
   pub kept_more : (kept : List Item) (i : DraftItem) (mid new : D) → AllByRecursion IsNamed kept → IsNamedDraft i →
-      Leaves moment left_since mid new (After (may_leave mid) (Spares (IsStagedOf kept i)))
+      HasLeft moment left_since mid new (IsAfter (may_leave mid) (IsSameBut (IsStagedOf kept i)))
       → AllHoldItems (may_leave mid) kept → AllHoldItems (may_leave new) kept
   kept_more kept i mid new named drafted leaves holds c left =
       let was = now laws mid new _ leaves c left in
@@ -160,14 +161,14 @@ module _ {D : Type 0} {is_modelled : Bool} {seen : D → Image} {may_leave : D �
   -- and so do those that are taken in, and one more is
   pub items_more : (kept : List Item) (i : DraftItem) (items : List Item) (made : Item) (mid new : D) → AllByRecursion IsNamed items → IsNamedDraft i →
       AllByRecursion (λ o. o.name ≢ i.name) items
-      → Leaves moment left_since mid new (After (may_leave mid) (Spares (IsStagedOf kept i))) → ((c : Image) → may_leave new c → HoldsItem c made)
+      → HasLeft moment left_since mid new (IsAfter (may_leave mid) (IsSameBut (IsStagedOf kept i))) → ((c : Image) → may_leave new c → HoldsItem c made)
       → AllHoldItems (may_leave mid) items → AllHoldItems (may_leave new) (items ++ made ∷ [])
   items_more kept i items made mid new named drafted differ leaves one holds c left =
       let was = now laws mid new _ leaves c left in
       push_each (HoldsItem c) items made (items_stay kept i items was.0 c named drafted differ was.2 (holds was.0 was.1)) (one c left)
 
-pub others_more : (fewer files : List ℕ → Type 0) (old mid new : Image) → ((name : List ℕ) → fewer name → files name) → Spares files old mid →
-    Spares fewer mid new → Spares files old new
+pub others_more : (fewer files : List ℕ → Type 0) (old mid new : Image) → ((name : List ℕ) → fewer name → files name) → IsSameBut files old mid →
+    IsSameBut fewer mid new → IsSameBut files old new
 others_more fewer files old mid new wider first second name spared = second name (λ is. spared (wider name is)) ∙ first name spared
 
 -- ---- a file that is held
@@ -198,5 +199,5 @@ pub none_left : {X : Type 0} (xs : List X) → length xs ≡ 0 → xs ≡ []
 none_left [] none = refl
 none_left (x ∷ xs) none = absurd (omega (arith, none))
 
-pub named_as : (i : DraftItem) (made : Item) → FillsItem i made → IsNamedDraft i → IsNamed made
+pub named_as : (i : DraftItem) (made : Item) → ItemFilled i made → IsNamedDraft i → IsNamed made
 named_as i made fills named = (subst IsName (sym fills.name) named.0, subst IsVersion (sym fills.version) named.1)

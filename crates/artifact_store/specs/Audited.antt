@@ -20,6 +20,6 @@ abbrev pub items_lines : Image → List Item → Table (List ℕ × List ℕ)
 items_lines image items = each (item_line image) items
 
 -- none where each has its digest, else the first that has another
-abbrev pub Audits : Table (List ℕ × List ℕ) → Option (List ℕ × List ℕ) → Type 0
-Audits lines None = AllHold lines
-Audits lines (Some found) = IsFirst lines found
+abbrev pub AuditOutcome : Table (List ℕ × List ℕ) → Option (List ℕ × List ℕ) → Type 0
+AuditOutcome lines None = AllHold lines
+AuditOutcome lines (Some found) = IsFirst lines found

@@ -6,7 +6,7 @@ use Rattle.nuc_base.specs.declared.artifact.Artifact.{Artifact}
 use Rattle.library_core.specs.Library.{Content}
 use Rattle.records.specs.Stored.{Item, Plan, DraftItem, Draft}
 use Rattle.records.specs.declared.record.Held.{Held}
-use Rattle.device.specs.Filled.{Fills}
+use Rattle.device.specs.Filled.{PlanFilled}
 
 -- ---- by the bytes of a library
 
@@ -23,5 +23,5 @@ abbrev pub FillsFiles : Content → DraftItem → Item → Type 0
 FillsFiles l i item = AllZip (FillsFile l i) i.artifacts item.artifacts
 
 pub record Filled (l : Content) (draft : Draft) (plan : Plan) : Type 0 where
-  pub fills : Fills draft plan
+  pub fills : PlanFilled draft plan
   pub files : AllZip (FillsFiles l) draft.items plan.items

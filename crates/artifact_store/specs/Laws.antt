@@ -5,7 +5,7 @@ use Rattle.nuc_base.specs.Names.{IsName}
 use Rattle.npm_ranges.specs.Versions.{IsVersion}
 use Rattle.disk_model.specs.Disk.{Image}
 use Rattle.disk_model.specs.Listing.{artifacts, IsBelow}
-use Rattle.disk_model.specs.Spares.{Spares}
+use Rattle.disk_model.specs.Spares.{IsSameBut}
 use Rattle.records.specs.Stored.{Item, Draft}
 use Rattle.device.specs.Devices.{Device}
 use Rattle.artifact_store.specs.Holding.{HoldsDevice, HoldsItems}
@@ -20,11 +20,11 @@ PathsDiffer = (n v f m w g : List ℕ) → IsName n → IsVersion v → IsName m
 -- what an image holds of the kept items stays, whatever becomes of the files that are staged
 abbrev pub StagingKeeps : Type 0
 StagingKeeps = (kept : List Item) (draft : Draft) (old new : Image) → AllByRecursion IsNamed kept → AllByRecursion IsNamedDraft draft.items
-    → Spares (IsStaged kept draft) old new → HoldsItems old kept → HoldsItems new kept
+    → IsSameBut (IsStaged kept draft) old new → HoldsItems old kept → HoldsItems new kept
 
 -- and what it holds of a device, whatever becomes of the files that it does not name
 abbrev pub SweepingKeeps : Type 0
-SweepingKeeps = (d : Device) (old new : Image) → Spares (IsStray (items_of d)) old new → HoldsDevice old d → HoldsDevice new d
+SweepingKeeps = (d : Device) (old new : Image) → IsSameBut (IsStray (items_of d)) old new → HoldsDevice old d → HoldsDevice new d
 
 -- where nothing is pending a device's files are those of its set
 abbrev pub HoldsTheSet : Type 0

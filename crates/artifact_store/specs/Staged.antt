@@ -102,7 +102,7 @@ abbrev pub StagesBy : {A : Type 0} → Table StageFault → (A → Type 0) → R
 StagesBy lines Is result = MatchResult result (λ value. AllHold lines × Is value) (λ f. IsOutside f ⊎ IsFirst lines f)
 
 -- the disk's fault exactly where the disk's count rose, and the library's where the library's did
-pub record Counts {A : Type 0} (disk_before disk_now library_before library_now : ℕ) (result : Result A StageFault) : Type 0 where
+pub record HasCounted {A : Type 0} (disk_before disk_now library_before library_now : ℕ) (result : Result A StageFault) : Type 0 where
   pub disk_cause : IsErrOf result fault.Disk → Rose disk_before disk_now
   pub disk_quiet : ¬ (IsErrOf result fault.Disk) → disk_now ≡ disk_before
   pub disk_later : disk_before ≤ disk_now

@@ -2,10 +2,10 @@
 ghost use Rattle.std.specs.Prelude.{◌≡◌, ◌≤◌, ◌↔◌, ℕ, length, map, None, IsTrue, IsErrOf, IfOk, OnOk};
 ghost use Rattle.sha2.specs.Sha256.{sha256};
 ghost use Rattle.nuc_base.specs.Faults.{HasCause, Rose};
-ghost use Rattle.disk_model.specs.Disk.{Leaves};
+ghost use Rattle.disk_model.specs.Disk.{HasLeft};
 ghost use Rattle.records.specs.Stored.{item_view};
 ghost use Rattle.device.specs.Devices.{device_view};
-ghost use Rattle.artifact_store.specs.Audited.{Audits, item_line, items_lines};
+ghost use Rattle.artifact_store.specs.Audited.{AuditOutcome, item_line, items_lines};
 ghost use Rattle.artifact_store.specs.Holding.{HoldsDevice};
 ghost use Rattle.artifact_store.specs.Swept.{items_of, pending_items};
 
@@ -25,7 +25,7 @@ fn digest_of<D: Disk>(disk: &mut D, file: &str, piece: &mut [u8]) -> Result<[u8;
     ensures told { IsTrue D.is_modelled → IfOk result (λ digest. digest ≡ sha256 (D.seen disk.old file.now)) }
     ensures long { length piece.new ≡ 65536 }
     ensures seen { D.seen disk.new ≡ D.seen disk.old }
-    ensures moments { Leaves D.moment D.left_since disk.old disk.new (D.may_leave disk.old) }
+    ensures moments { HasLeft D.moment D.left_since disk.old disk.new (D.may_leave disk.old) }
     ensures cause { HasCause (D.faults disk.old) (D.faults disk.new) result }
     ensures quiet { OnOk result (D.faults disk.new ≡ D.faults disk.old) }
 {
@@ -51,10 +51,10 @@ fn audit_item<D: Disk>(
     piece: &mut [u8],
 ) -> Result<Option<(FileName, [u8; 32])>, AuditFault>
     requires { length piece.old ≡ 65536 }
-    ensures told { IsTrue D.is_modelled → IfOk result (Audits (item_line (D.seen disk.old) (item_view item.now))) }
+    ensures told { IsTrue D.is_modelled → IfOk result (AuditOutcome (item_line (D.seen disk.old) (item_view item.now))) }
     ensures long { length piece.new ≡ 65536 }
     ensures seen { D.seen disk.new ≡ D.seen disk.old }
-    ensures moments { Leaves D.moment D.left_since disk.old disk.new (D.may_leave disk.old) }
+    ensures moments { HasLeft D.moment D.left_since disk.old disk.new (D.may_leave disk.old) }
     ensures cause { IsErrOf result AuditFault.Disk → Rose (D.faults disk.old) (D.faults disk.new) }
     ensures quiet { ¬ (IsErrOf result AuditFault.Disk) → D.faults disk.new ≡ D.faults disk.old }
     ensures later { D.faults disk.old ≤ D.faults disk.new }
@@ -77,10 +77,10 @@ pub(crate) fn audit_items<D: Disk>(
     piece: &mut [u8],
 ) -> Result<Option<(FileName, [u8; 32])>, AuditFault>
     requires { length piece.old ≡ 65536 }
-    ensures told { IsTrue D.is_modelled → IfOk result (Audits (items_lines (D.seen disk.old) (map item_view items.now))) }
+    ensures told { IsTrue D.is_modelled → IfOk result (AuditOutcome (items_lines (D.seen disk.old) (map item_view items.now))) }
     ensures long { length piece.new ≡ 65536 }
     ensures seen { D.seen disk.new ≡ D.seen disk.old }
-    ensures moments { Leaves D.moment D.left_since disk.old disk.new (D.may_leave disk.old) }
+    ensures moments { HasLeft D.moment D.left_since disk.old disk.new (D.may_leave disk.old) }
     ensures cause { IsErrOf result AuditFault.Disk → Rose (D.faults disk.old) (D.faults disk.new) }
     ensures quiet { ¬ (IsErrOf result AuditFault.Disk) → D.faults disk.new ≡ D.faults disk.old }
     ensures later { D.faults disk.old ≤ D.faults disk.new }
@@ -102,9 +102,9 @@ fn audit_pending<D: Disk>(
     piece: &mut [u8],
 ) -> Result<Option<(FileName, [u8; 32])>, AuditFault>
     requires { length piece.old ≡ 65536 }
-    ensures told { IsTrue D.is_modelled → IfOk result (Audits (items_lines (D.seen disk.old) (pending_items (device_view device.now).pending))) }
+    ensures told { IsTrue D.is_modelled → IfOk result (AuditOutcome (items_lines (D.seen disk.old) (pending_items (device_view device.now).pending))) }
     ensures seen { D.seen disk.new ≡ D.seen disk.old }
-    ensures moments { Leaves D.moment D.left_since disk.old disk.new (D.may_leave disk.old) }
+    ensures moments { HasLeft D.moment D.left_since disk.old disk.new (D.may_leave disk.old) }
     ensures cause { IsErrOf result AuditFault.Disk → Rose (D.faults disk.old) (D.faults disk.new) }
     ensures quiet { ¬ (IsErrOf result AuditFault.Disk) → D.faults disk.new ≡ D.faults disk.old }
     ensures later { D.faults disk.old ≤ D.faults disk.new }
@@ -123,9 +123,9 @@ fn audit_device<D: Disk>(
     piece: &mut [u8],
 ) -> Result<Option<(FileName, [u8; 32])>, AuditFault>
     requires { length piece.old ≡ 65536 }
-    ensures told { IsTrue D.is_modelled → IfOk result (Audits (items_lines (D.seen disk.old) (items_of (device_view device.now)))) }
+    ensures told { IsTrue D.is_modelled → IfOk result (AuditOutcome (items_lines (D.seen disk.old) (items_of (device_view device.now)))) }
     ensures seen { D.seen disk.new ≡ D.seen disk.old }
-    ensures moments { Leaves D.moment D.left_since disk.old disk.new (D.may_leave disk.old) }
+    ensures moments { HasLeft D.moment D.left_since disk.old disk.new (D.may_leave disk.old) }
     ensures cause { IsErrOf result AuditFault.Disk → Rose (D.faults disk.old) (D.faults disk.new) }
     ensures quiet { ¬ (IsErrOf result AuditFault.Disk) → D.faults disk.new ≡ D.faults disk.old }
     ensures later { D.faults disk.old ≤ D.faults disk.new }
@@ -144,10 +144,10 @@ pub fn audit<D: Disk>(
     disk: &mut D,
     device: &Device,
 ) -> Result<Option<(FileName, [u8; 32])>, AuditFault>
-    ensures told { IsTrue D.is_modelled → IfOk result (Audits (items_lines (D.seen disk.old) (items_of (device_view device.now)))) }
+    ensures told { IsTrue D.is_modelled → IfOk result (AuditOutcome (items_lines (D.seen disk.old) (items_of (device_view device.now)))) }
     ensures whole { IsTrue D.is_modelled → IfOk result (λ found. (found ≡ None) ↔ HoldsDevice (D.seen disk.old) (device_view device.now)) }
     ensures seen { D.seen disk.new ≡ D.seen disk.old }
-    ensures moments { Leaves D.moment D.left_since disk.old disk.new (D.may_leave disk.old) }
+    ensures moments { HasLeft D.moment D.left_since disk.old disk.new (D.may_leave disk.old) }
     ensures cause { IsErrOf result AuditFault.Disk → Rose (D.faults disk.old) (D.faults disk.new) }
     ensures quiet { ¬ (IsErrOf result AuditFault.Disk) → D.faults disk.new ≡ D.faults disk.old }
     ensures later { D.faults disk.old ≤ D.faults disk.new }

@@ -1,13 +1,13 @@
 //! Taking in the file of one artifact.
 ghost use Rattle.std.specs.Prelude.{◌≡◌, ℕ, ◌≤◌, [], IsTrue, length, Some, None, ⊤, IfOk, IfErr, IfSome};
 ghost use Rattle.sha2.specs.Sha256.{sha256};
-ghost use Rattle.disk_model.specs.Disk.{Image, After, Leaves};
-ghost use Rattle.disk_model.specs.Spares.{Spares, IsFile};
+ghost use Rattle.disk_model.specs.Disk.{Image, IsAfter, HasLeft};
+ghost use Rattle.disk_model.specs.Spares.{IsSameBut, IsFile};
 ghost use Rattle.library_core.specs.Library.{Content};
 ghost use Rattle.records.specs.Stored.{draft_item_view};
 ghost use Rattle.artifact_store.specs.Filled.{IsDigestOf};
 ghost use Rattle.artifact_store.specs.Paths.{path};
-ghost use Rattle.artifact_store.specs.Staged.{Counts, StagesBy, artifact_lines, found_lines};
+ghost use Rattle.artifact_store.specs.Staged.{HasCounted, StagesBy, artifact_lines, found_lines};
 
 use crate::fault::StageFault;
 use crate::paths::file_name;
@@ -35,7 +35,7 @@ fn check_size<L: Library>(
     ensures sized { (l : Content) → L.content library.old ≡ Some l →
         StagesBy (found_lines target.now None (l.artifact item.now.name item.now.version artifact.now.file)) (λ _. ⊤) result }
     ensures kept { L.content library.new ≡ L.content library.old }
-    ensures counts { (n : ℕ) → Counts n n (L.faults library.old) (L.faults library.new) result }
+    ensures counts { (n : ℕ) → HasCounted n n (L.faults library.old) (L.faults library.new) result }
 {
     let mut next = [0u8];
     let (name, version) = (&item.name, &item.version);
@@ -57,14 +57,14 @@ fn copy_in<D: Disk, L: Library>(
     target: &FileName,
 ) -> Result<[u8; 32], StageFault>
     requires empty { IsTrue D.is_modelled → D.seen disk.old target.now ≡ [] }
-    ensures moments { Leaves D.moment D.left_since disk.old disk.new (After (D.may_leave disk.old) (Spares (IsFile target.now))) }
-    ensures others { IsTrue D.is_modelled → Spares (IsFile target.now) (D.seen disk.old) (D.seen disk.new) }
+    ensures moments { HasLeft D.moment D.left_since disk.old disk.new (IsAfter (D.may_leave disk.old) (IsSameBut (IsFile target.now))) }
+    ensures others { IsTrue D.is_modelled → IsSameBut (IsFile target.now) (D.seen disk.old) (D.seen disk.new) }
     ensures written { IsTrue D.is_modelled → IfOk result (λ digest. digest ≡ sha256 (D.seen disk.new target.now)) }
     ensures copied { (l : Content) → L.content library.old ≡ Some l →
         StagesBy (found_lines target.now None (l.artifact item.now.name item.now.version artifact.now.file))
         (IsDigestOf (l.artifact item.now.name item.now.version artifact.now.file)) result }
     ensures kept { L.content library.new ≡ L.content library.old }
-    ensures counts { Counts (D.faults disk.old) (D.faults disk.new) (L.faults library.old) (L.faults library.new) result }
+    ensures counts { HasCounted (D.faults disk.old) (D.faults disk.new) (L.faults library.old) (L.faults library.new) result }
 {
     let mut hasher = Sha256::new();
     let mut piece = vec![in alloc; 0u8; PIECE]?;
@@ -97,9 +97,9 @@ pub(crate) fn stage_file<D: Disk, L: Library>(
     artifact: &Artifact,
 ) -> Result<[u8; 32], StageFault>
     // A crash at any moment of the call changes that file alone.
-    ensures moments { Leaves D.moment D.left_since disk.old disk.new
-        (After (D.may_leave disk.old) (Spares (IsFile (path item.now.name item.now.version artifact.now.file)))) }
-    ensures others { IsTrue D.is_modelled → Spares (IsFile (path item.now.name item.now.version artifact.now.file)) (D.seen disk.old) (D.seen disk.new) }
+    ensures moments { HasLeft D.moment D.left_since disk.old disk.new
+        (IsAfter (D.may_leave disk.old) (IsSameBut (IsFile (path item.now.name item.now.version artifact.now.file)))) }
+    ensures others { IsTrue D.is_modelled → IsSameBut (IsFile (path item.now.name item.now.version artifact.now.file)) (D.seen disk.old) (D.seen disk.new) }
     // Then a crash leaves bytes of that digest.
     ensures held { IfOk result (λ digest. (c : Image) → D.may_leave disk.new c → sha256 (c (path item.now.name item.now.version artifact.now.file)) ≡ digest) }
     ensures given { IfOk result (λ digest. IfSome artifact.now.digest (λ d. digest ≡ d)) }
@@ -107,7 +107,7 @@ pub(crate) fn stage_file<D: Disk, L: Library>(
         StagesBy (artifact_lines l (draft_item_view item.now) artifact.now)
         (IsDigestOf (l.artifact item.now.name item.now.version artifact.now.file)) result }
     ensures kept { L.content library.new ≡ L.content library.old }
-    ensures counts { Counts (D.faults disk.old) (D.faults disk.new) (L.faults library.old) (L.faults library.new) result }
+    ensures counts { HasCounted (D.faults disk.old) (D.faults disk.new) (L.faults library.old) (L.faults library.new) result }
 {
     let target = file_name(alloc, &item.name, &item.version, &artifact.file)?;
     check_size(alloc, library, item, artifact, &target)?;

@@ -1,18 +1,18 @@
 //! Taking in the files of a draft.
 ghost use Rattle.std.specs.Prelude.{◌≡◌, ℕ, ◌≤◌, List, IsTrue, length, map, Some, None, IfOk, IfSome};
 ghost use Rattle.std.specs.List.{AllByRecursion, AllZip};
-ghost use Rattle.disk_model.specs.Disk.{Image, After, Leaves};
-ghost use Rattle.disk_model.specs.Spares.{Spares};
+ghost use Rattle.disk_model.specs.Disk.{Image, IsAfter, HasLeft};
+ghost use Rattle.disk_model.specs.Spares.{IsSameBut};
 ghost use Rattle.library_core.specs.Library.{Content};
 ghost use Rattle.nuc_base.specs.Tables.{each};
 ghost use Rattle.records.specs.Stored.{item_view, draft_item_view, draft_view, plan_view};
 ghost use Rattle.device.specs.Devices as stored;
-ghost use Rattle.device.specs.Plans.{IsHeldFor, Rise};
-ghost use Rattle.device.specs.Filled.{FillsItem, Fills};
+ghost use Rattle.device.specs.Plans.{IsHeldFor, AreRising};
+ghost use Rattle.device.specs.Filled.{ItemFilled, PlanFilled};
 ghost use Rattle.artifact_store.specs.Filled.{FillsFile, FillsFiles, Filled};
 ghost use Rattle.artifact_store.specs.Holding.{HoldsFiles, HoldsItem, HoldsDevice, AllHoldItems, AllHoldDevice};
 ghost use Rattle.artifact_store.specs.Paths.{IsNamed, IsNamedDraft};
-ghost use Rattle.artifact_store.specs.Staged.{Counts, StagesBy, IsFileOfDraft, IsStaged, IsStagedOf, IsStagedAmong, KeepsFiles, HasItsFiles, IsGiven};
+ghost use Rattle.artifact_store.specs.Staged.{HasCounted, StagesBy, IsFileOfDraft, IsStaged, IsStagedOf, IsStagedAmong, KeepsFiles, HasItsFiles, IsGiven};
 ghost use Rattle.artifact_store.specs.Staged.{draft_name, artifact_lines, item_lines, draft_lines, is_kept};
 
 use crate::copies::stage_file;
@@ -53,15 +53,15 @@ fn stage_files<D: Disk, L: Library>(
     item: &DraftItem,
 ) -> Result<List<Held>, StageFault>
     requires differ { HasItsFiles (draft_item_view item.now) }
-    ensures moments { Leaves D.moment D.left_since disk.old disk.new (After (D.may_leave disk.old) (Spares (IsFileOfDraft (draft_item_view item.now)))) }
-    ensures others { IsTrue D.is_modelled → Spares (IsFileOfDraft (draft_item_view item.now)) (D.seen disk.old) (D.seen disk.new) }
+    ensures moments { HasLeft D.moment D.left_since disk.old disk.new (IsAfter (D.may_leave disk.old) (IsSameBut (IsFileOfDraft (draft_item_view item.now)))) }
+    ensures others { IsTrue D.is_modelled → IsSameBut (IsFileOfDraft (draft_item_view item.now)) (D.seen disk.old) (D.seen disk.new) }
     ensures held { IfOk result (λ helds. (c : Image) → D.may_leave disk.new c → HoldsFiles c item.now.name item.now.version helds) }
     ensures given { IfOk result (λ helds. AllZip IsHeldFor item.now.artifacts helds) }
     ensures staged { (l : Content) → L.content library.old ≡ Some l →
         StagesBy (each (artifact_lines l (draft_item_view item.now)) item.now.artifacts)
         (λ helds. AllZip (FillsFile l (draft_item_view item.now)) item.now.artifacts helds) result }
     ensures kept { L.content library.new ≡ L.content library.old }
-    ensures counts { Counts (D.faults disk.old) (D.faults disk.new) (L.faults library.old) (L.faults library.new) result }
+    ensures counts { HasCounted (D.faults disk.old) (D.faults disk.new) (L.faults library.old) (L.faults library.new) result }
 {
     let mut helds = Vec::new(alloc);
     for artifact in item.artifacts.as_slice() {
@@ -94,9 +94,9 @@ fn item_files<D: Disk, L: Library>(
 ) -> Result<List<Held>, StageFault>
     requires keeps { KeepsFiles (map item_view kept.now) (draft_item_view item.now) }
     requires differ { HasItsFiles (draft_item_view item.now) }
-    ensures moments { Leaves D.moment D.left_since disk.old disk.new
-        (After (D.may_leave disk.old) (Spares (IsStagedOf (map item_view kept.now) (draft_item_view item.now)))) }
-    ensures others { IsTrue D.is_modelled → Spares (IsStagedOf (map item_view kept.now) (draft_item_view item.now)) (D.seen disk.old) (D.seen disk.new) }
+    ensures moments { HasLeft D.moment D.left_since disk.old disk.new
+        (IsAfter (D.may_leave disk.old) (IsSameBut (IsStagedOf (map item_view kept.now) (draft_item_view item.now)))) }
+    ensures others { IsTrue D.is_modelled → IsSameBut (IsStagedOf (map item_view kept.now) (draft_item_view item.now)) (D.seen disk.old) (D.seen disk.new) }
     ensures held { IfOk result (λ helds. AllHoldItems (D.may_leave disk.old) (map item_view kept.now) → (c : Image) → D.may_leave disk.new c →
         HoldsFiles c item.now.name item.now.version helds) }
     ensures given { IfOk result (λ helds. AllZip IsHeldFor item.now.artifacts helds) }
@@ -104,7 +104,7 @@ fn item_files<D: Disk, L: Library>(
         StagesBy (item_lines l (map item_view kept.now) (draft_item_view item.now))
         (λ helds. AllZip (FillsFile l (draft_item_view item.now)) item.now.artifacts helds) result }
     ensures kept { L.content library.new ≡ L.content library.old }
-    ensures counts { Counts (D.faults disk.old) (D.faults disk.new) (L.faults library.old) (L.faults library.new) result }
+    ensures counts { HasCounted (D.faults disk.old) (D.faults disk.new) (L.faults library.old) (L.faults library.new) result }
 {
     if is_kept(kept, item) {
         let helds = given_files(alloc, item)?;
@@ -123,16 +123,16 @@ fn stage_item<D: Disk, L: Library>(
 ) -> Result<Item, StageFault>
     requires keeps { KeepsFiles (map item_view kept.now) (draft_item_view item) }
     requires differ { HasItsFiles (draft_item_view item) }
-    ensures moments { Leaves D.moment D.left_since disk.old disk.new
-        (After (D.may_leave disk.old) (Spares (IsStagedOf (map item_view kept.now) (draft_item_view item)))) }
-    ensures others { IsTrue D.is_modelled → Spares (IsStagedOf (map item_view kept.now) (draft_item_view item)) (D.seen disk.old) (D.seen disk.new) }
+    ensures moments { HasLeft D.moment D.left_since disk.old disk.new
+        (IsAfter (D.may_leave disk.old) (IsSameBut (IsStagedOf (map item_view kept.now) (draft_item_view item)))) }
+    ensures others { IsTrue D.is_modelled → IsSameBut (IsStagedOf (map item_view kept.now) (draft_item_view item)) (D.seen disk.old) (D.seen disk.new) }
     ensures held { IfOk result (λ made. AllHoldItems (D.may_leave disk.old) (map item_view kept.now) → (c : Image) → D.may_leave disk.new c →
         HoldsItem c (item_view made)) }
-    ensures fills { IfOk result (λ made. FillsItem (draft_item_view item) (item_view made)) }
+    ensures fills { IfOk result (λ made. ItemFilled (draft_item_view item) (item_view made)) }
     ensures staged { (l : Content) → L.content library.old ≡ Some l →
         StagesBy (item_lines l (map item_view kept.now) (draft_item_view item)) (λ made. FillsFiles l (draft_item_view item) (item_view made)) result }
     ensures kept { L.content library.new ≡ L.content library.old }
-    ensures counts { Counts (D.faults disk.old) (D.faults disk.new) (L.faults library.old) (L.faults library.new) result }
+    ensures counts { HasCounted (D.faults disk.old) (D.faults disk.new) (L.faults library.old) (L.faults library.new) result }
 {
     let artifacts = item_files(alloc, disk, library, kept, &item)?;
     let DraftItem {
@@ -167,24 +167,24 @@ pub fn stage<D: Disk, L: Library>(
 ) -> Result<Plan, StageFault>
     requires named { AllByRecursion IsNamed (map item_view kept.now) }
     requires drafted { AllByRecursion IsNamedDraft (map draft_item_view draft.items) }
-    requires rise { Rise (map draft_name (map draft_item_view draft.items)) }
+    requires rise { AreRising (map draft_name (map draft_item_view draft.items)) }
     requires differ { AllByRecursion HasItsFiles (map draft_item_view draft.items) }
     requires keeps { AllByRecursion (KeepsFiles (map item_view kept.now)) (map draft_item_view draft.items) }
     // A crash at any moment of the call changes staged files alone.
-    ensures moments { Leaves D.moment D.left_since disk.old disk.new
-        (After (D.may_leave disk.old) (Spares (IsStaged (map item_view kept.now) (draft_view draft)))) }
-    ensures others { IsTrue D.is_modelled → Spares (IsStaged (map item_view kept.now) (draft_view draft)) (D.seen disk.old) (D.seen disk.new) }
+    ensures moments { HasLeft D.moment D.left_since disk.old disk.new
+        (IsAfter (D.may_leave disk.old) (IsSameBut (IsStaged (map item_view kept.now) (draft_view draft)))) }
+    ensures others { IsTrue D.is_modelled → IsSameBut (IsStaged (map item_view kept.now) (draft_view draft)) (D.seen disk.old) (D.seen disk.new) }
     // So a device that has these items and nothing pending has its files at each moment, where it had them before.
     ensures safe { (d : stored.Device) → d.set ≡ map item_view kept.now → d.pending ≡ None → AllHoldDevice (D.may_leave disk.old) d
-        → Leaves D.moment D.left_since disk.old disk.new (λ c. HoldsDevice c d) }
+        → HasLeft D.moment D.left_since disk.old disk.new (λ c. HoldsDevice c d) }
     // Where a crash before left each kept file with its digest, a crash then leaves each file of the plan with its own.
     ensures held { IfOk result (λ plan. AllHoldItems (D.may_leave disk.old) (map item_view kept.now) →
         AllHoldItems (D.may_leave disk.new) (map item_view plan.items)) }
-    ensures fills { IfOk result (λ plan. Fills (draft_view draft) (plan_view plan)) }
+    ensures fills { IfOk result (λ plan. PlanFilled (draft_view draft) (plan_view plan)) }
     ensures staged { (l : Content) → L.content library.old ≡ Some l →
         StagesBy (draft_lines l (map item_view kept.now) (draft_view draft)) (λ plan. Filled l (draft_view draft) (plan_view plan)) result }
     ensures kept { L.content library.new ≡ L.content library.old }
-    ensures counts { Counts (D.faults disk.old) (D.faults disk.new) (L.faults library.old) (L.faults library.new) result }
+    ensures counts { HasCounted (D.faults disk.old) (D.faults disk.new) (L.faults library.old) (L.faults library.new) result }
 {
     let Draft {
         id,
@@ -217,20 +217,21 @@ fn stage_items<D: Disk, L: Library>(
 ) -> Result<List<Item>, StageFault>
     requires named { AllByRecursion IsNamed (map item_view kept.now) }
     requires drafted { AllByRecursion IsNamedDraft (map draft_item_view drafts) }
-    requires rise { Rise (map draft_name (map draft_item_view drafts)) }
+    requires rise { AreRising (map draft_name (map draft_item_view drafts)) }
     requires differ { AllByRecursion HasItsFiles (map draft_item_view drafts) }
     requires keeps { AllByRecursion (KeepsFiles (map item_view kept.now)) (map draft_item_view drafts) }
-    ensures moments { Leaves D.moment D.left_since disk.old disk.new
-        (After (D.may_leave disk.old) (Spares (IsStagedAmong (map item_view kept.now) (map draft_item_view drafts)))) }
-    ensures others { IsTrue D.is_modelled → Spares (IsStagedAmong (map item_view kept.now) (map draft_item_view drafts)) (D.seen disk.old) (D.seen disk.new) }
+    ensures moments { HasLeft D.moment D.left_since disk.old disk.new
+        (IsAfter (D.may_leave disk.old) (IsSameBut (IsStagedAmong (map item_view kept.now) (map draft_item_view drafts)))) }
+    ensures others { IsTrue D.is_modelled → IsSameBut (IsStagedAmong (map item_view kept.now) (map draft_item_view drafts)) (D.seen disk.old)
+        (D.seen disk.new) }
     ensures held { IfOk result (λ items. AllHoldItems (D.may_leave disk.old) (map item_view kept.now) →
         AllHoldItems (D.may_leave disk.new) (map item_view items)) }
-    ensures fills { IfOk result (λ items. AllZip FillsItem (map draft_item_view drafts) (map item_view items)) }
+    ensures fills { IfOk result (λ items. AllZip ItemFilled (map draft_item_view drafts) (map item_view items)) }
     ensures staged { (l : Content) → L.content library.old ≡ Some l →
         StagesBy (each (item_lines l (map item_view kept.now)) (map draft_item_view drafts))
         (λ items. AllZip (FillsFiles l) (map draft_item_view drafts) (map item_view items)) result }
     ensures kept { L.content library.new ≡ L.content library.old }
-    ensures counts { Counts (D.faults disk.old) (D.faults disk.new) (L.faults library.old) (L.faults library.new) result }
+    ensures counts { HasCounted (D.faults disk.old) (D.faults disk.new) (L.faults library.old) (L.faults library.new) result }
 {
     let mut items = Vec::new(alloc);
     for draft in drafts.into_vec() {

@@ -5,8 +5,8 @@ ghost use Rattle.std.specs.Ordering.{nat_cmp};
 ghost use Rattle.std.specs.Cmp.Lexicographic.{slice_cmp};
 ghost use Rattle.std.specs.BTreeSet.{contains};
 ghost use Rattle.nuc_base.specs.Faults.{HasCause, Rose};
-ghost use Rattle.disk_model.specs.Disk.{After, Leaves};
-ghost use Rattle.disk_model.specs.Spares.{Spares};
+ghost use Rattle.disk_model.specs.Disk.{IsAfter, HasLeft};
+ghost use Rattle.disk_model.specs.Spares.{IsSameBut};
 ghost use Rattle.records.specs.Stored.{item_view};
 ghost use Rattle.device.specs.Devices.{device_view};
 ghost use Rattle.artifact_store.specs.Holding.{HoldsDevice, AllHoldDevice};
@@ -67,9 +67,9 @@ pub(crate) fn sweep_file<D: Disk>(
     needed: &BTreeSet<FileName>,
     file: &FileName,
 ) -> Result<(), DiskFault>
-    ensures moments { Leaves D.moment D.left_since disk.old disk.new
-        (After (D.may_leave disk.old) (Spares (IsUnneeded (contains (slice_cmp nat_cmp) needed.now file.now) file.now))) }
-    ensures others { IsTrue D.is_modelled → Spares (IsUnneeded (contains (slice_cmp nat_cmp) needed.now file.now) file.now) (D.seen disk.old)
+    ensures moments { HasLeft D.moment D.left_since disk.old disk.new
+        (IsAfter (D.may_leave disk.old) (IsSameBut (IsUnneeded (contains (slice_cmp nat_cmp) needed.now file.now) file.now))) }
+    ensures others { IsTrue D.is_modelled → IsSameBut (IsUnneeded (contains (slice_cmp nat_cmp) needed.now file.now) file.now) (D.seen disk.old)
         (D.seen disk.new) }
     ensures gone { IsTrue D.is_modelled → OnOk result (contains (slice_cmp nat_cmp) needed.now file.now ≡ false → D.seen disk.new file.now ≡ []) }
     ensures cause { HasCause (D.faults disk.old) (D.faults disk.new) result }
@@ -87,10 +87,11 @@ pub(crate) fn sweep_file<D: Disk>(
 /// It takes memory for the list of the files and for the names of those that are needed, before it removes one.
 pub fn sweep<D: Disk>(alloc: Global, disk: &mut D, device: &Device) -> Result<(), SweepFault>
     // A crash at any moment of the call changes stray files alone.
-    ensures moments { Leaves D.moment D.left_since disk.old disk.new (After (D.may_leave disk.old) (Spares (IsStray (items_of (device_view device.now))))) }
-    ensures others { IsTrue D.is_modelled → Spares (IsStray (items_of (device_view device.now))) (D.seen disk.old) (D.seen disk.new) }
+    ensures moments { HasLeft D.moment D.left_since disk.old disk.new
+        (IsAfter (D.may_leave disk.old) (IsSameBut (IsStray (items_of (device_view device.now))))) }
+    ensures others { IsTrue D.is_modelled → IsSameBut (IsStray (items_of (device_view device.now))) (D.seen disk.old) (D.seen disk.new) }
     // So the device has its files at each moment, where it had them before.
-    ensures safe { AllHoldDevice (D.may_leave disk.old) (device_view device.now) → Leaves D.moment D.left_since disk.old disk.new
+    ensures safe { AllHoldDevice (D.may_leave disk.old) (device_view device.now) → HasLeft D.moment D.left_since disk.old disk.new
         (λ c. HoldsDevice c (device_view device.now)) }
     ensures swept { IsTrue D.is_modelled → OnOk result (IsSwept (items_of (device_view device.now)) (D.seen disk.new)) }
     ensures cause { IsErrOf result SweepFault.Disk → Rose (D.faults disk.old) (D.faults disk.new) }

@@ -2,7 +2,7 @@
 use Rattle.std.proofs.Common.{◌≡◌, ◌⊎◌, inl, inr, ℕ, ◌+◌, ◌<◌, Bool, true, false, IsTrue, Ok, Err, None, List, [], ◌∷◌, ◌++◌, map, get_or, refl, sym, ◌∙◌, ap}
 use Rattle.std.proofs.Common.{subst, arith, append_assoc}
 use Rattle.std.proofs.lemmas.Bool.{cases_eq}
-use Rattle.disk_model.specs.Disk.{Image, Settled, Leaves, DiskLaws}
+use Rattle.disk_model.specs.Disk.{Image, Settled, HasLeft, DiskLaws}
 use Rattle.disk_model.specs.Moments.{now, tells_of}
 use Rattle.gate_log.specs.Entries.{journal, entry, joined, AllGood, ClosedAt, HoldsNone}
 use Rattle.gate_log.specs.Found.{FindsBy}
@@ -10,14 +10,14 @@ use Rattle.gate_log.specs.Journal.{AreSettled, IsBehind, none_in, damaged_in, st
 use Rattle.gate_log.specs.Laws.{entry_same}
 use Rattle.gate_log.specs.declared.find.FindFault.{FindFault}
 use Rattle.gate_log.specs.declared.find.FindFault.TheVariants.{Disk, NotInitialised, Damaged}
-use Rattle.checkpoint_log.specs.Beginnings.{second, slot, Says, Begins, FirstSays, IsOlder}
+use Rattle.checkpoint_log.specs.Beginnings.{second, slot, HasNumber, HasFirstEntry, FirstSays, IsOlder}
 use Rattle.checkpoint_log.specs.Slots.{slots_files, slots_none, slots_damaged, SlotsStand, slots_stands}
 use Rattle.checkpoint_log.specs.Laws.{beside, two_names, begins_some}
 use Rattle.checkpoint_log.specs.Look.{IsLook, IsNumber}
 use Rattle.checkpoint_log.specs.declared.slots.Slots.{Slots}
 
 -- a list of entries behind a good beginning begins so
-pub begins_first : (file : List ℕ) (n end : ℕ) (payloads : List (List ℕ)) → ClosedAt file end payloads → Begins file n → FirstSays payloads n
+pub begins_first : (file : List ℕ) (n end : ℕ) (payloads : List (List ℕ)) → ClosedAt file end payloads → HasFirstEntry file n → FirstSays payloads n
 begins_first file n end payloads closed begins = by_entries closed.entries closed.good closed.payloads_are closed.file_is
   where
     by_entries : (es : List (ℕ × List ℕ)) → AllGood es → map (λ (e : ℕ × List ℕ). e.1) es ≡ payloads → file ≡ joined es ++ 0 ∷ closed.tail →
@@ -26,7 +26,7 @@ begins_first file n end payloads closed begins = by_entries closed.entries close
     by_entries (e ∷ es) good are is =
         let one = entry_same begins.first e begins.more (joined es ++ 0 ∷ closed.tail) begins.good good.0
         (sym begins.file_is ∙ is ∙ append_assoc (entry e) (joined es) (0 ∷ closed.tail)) in
-        record { first = e.1; others = map (λ (x : ℕ × List ℕ). x.1) es; is = sym are; says = subst (λ (l : List ℕ). Says l n) one.0 begins.says }
+        record { first = e.1; others = map (λ (x : ℕ × List ℕ). x.1) es; is = sym are; says = subst (λ (l : List ℕ). HasNumber l n) one.0 begins.says }
 
 pub number_fault : (image : Image) (f : FindFault) → IsNumber image (Err f) → FindsBy slots_none slots_damaged slots_stands image (Err f)
 number_fault image Disk h = tt
@@ -50,16 +50,16 @@ found_stands image log payloads h rests closed = record {
 
 module _ {D : Type 0} {is_modelled : Bool} {seen : D → Image} {may_leave : D → Image → Type 0} {moment : D → ℕ} {left_since : D → ℕ → Image → Type 0}
     (laws : DiskLaws is_modelled seen may_leave moment left_since) where
-  pub settled_on : (file : List ℕ) (old new : D) → Leaves moment left_since old new (may_leave old) → seen new ≡ seen old →
+  pub settled_on : (file : List ℕ) (old new : D) → HasLeft moment left_since old new (may_leave old) → seen new ≡ seen old →
       Settled (may_leave old) file (seen old file) → Settled (may_leave new) file (seen new file)
   settled_on file old new leaves same settled c left = settled c (now laws old new _ leaves c left) ∙ sym (ap (λ (i : Image). i file) same)
 
-  pub all_settled : (old new : D) → Leaves moment left_since old new (may_leave old) → seen new ≡ seen old → AreSettled seen may_leave slots_files old →
+  pub all_settled : (old new : D) → HasLeft moment left_since old new (may_leave old) → seen new ≡ seen old → AreSettled seen may_leave slots_files old →
       AreSettled seen may_leave slots_files new
   all_settled old new leaves same settled file is = settled_on file old new leaves same (settled file is)
 
   -- both files, one after the other
-  pub both_settled : (mid new : D) → Settled (may_leave mid) journal (seen mid journal) → Leaves moment left_since mid new (may_leave mid) →
+  pub both_settled : (mid new : D) → Settled (may_leave mid) journal (seen mid journal) → HasLeft moment left_since mid new (may_leave mid) →
       seen new ≡ seen mid → Settled (may_leave new) second (seen new second)
       → AreSettled seen may_leave slots_files new
   both_settled mid new first leaves same other file (inl is) = subst (λ (f : List ℕ). Settled (may_leave new) f (seen new f)) (sym is)
@@ -94,17 +94,17 @@ slot_other n is = elim (beside n) [
   | inr e ↦ e.1
 ]
 
-pub first_number : (image : Image) (n : ℕ) → Begins (image journal) n → slot n ≡ journal → HoldsNone (image second) ⊎
-    ((m : ℕ) × (m < n) × (slot m ≡ second) × Begins (image second) m) → IsNumber image (Ok n)
+pub first_number : (image : Image) (n : ℕ) → HasFirstEntry (image journal) n → slot n ≡ journal → HoldsNone (image second) ⊎
+    ((m : ℕ) × (m < n) × (slot m ≡ second) × HasFirstEntry (image second) m) → IsNumber image (Ok n)
 first_number image n begins is older =
     let other = slot_first n is in
-    (subst (λ (name : List ℕ). Begins (image name) n) (sym is) begins, subst (λ (name : List ℕ). IsOlder name (image name) n) (sym other) older)
+    (subst (λ (name : List ℕ). HasFirstEntry (image name) n) (sym is) begins, subst (λ (name : List ℕ). IsOlder name (image name) n) (sym other) older)
 
-pub other_number : (image : Image) (n : ℕ) → Begins (image second) n → slot n ≡ second → HoldsNone (image journal) ⊎
-    ((m : ℕ) × (m < n) × (slot m ≡ journal) × Begins (image journal) m) → IsNumber image (Ok n)
+pub other_number : (image : Image) (n : ℕ) → HasFirstEntry (image second) n → slot n ≡ second → HoldsNone (image journal) ⊎
+    ((m : ℕ) × (m < n) × (slot m ≡ journal) × HasFirstEntry (image journal) m) → IsNumber image (Ok n)
 other_number image n begins is older =
     let other = slot_other n is in
-    (subst (λ (name : List ℕ). Begins (image name) n) (sym is) begins, subst (λ (name : List ℕ). IsOlder name (image name) n) (sym other) older)
+    (subst (λ (name : List ℕ). HasFirstEntry (image name) n) (sym is) begins, subst (λ (name : List ℕ). IsOlder name (image name) n) (sym other) older)
 
 -- both begin, and one number is not smaller
 pub not_smaller : (n m : ℕ) → slot n ≡ journal → slot m ≡ second → ¬ (n < m) → m < n

@@ -10,7 +10,7 @@ use Rattle.std.specs.Int.{w32, w64, to_be_bytes, from_be_bytes}
 use Rattle.gate_log.specs.Entries.{most_payload, entry, IsGood, HoldsNone}
 use Rattle.gate_log.specs.Laws.{length-entry}
 use Rattle.gate_log.proofs.Walk.{whole_entry}
-use Rattle.checkpoint_log.specs.Beginnings.{named, slot, Says, Begins}
+use Rattle.checkpoint_log.specs.Beginnings.{named, slot, HasNumber, HasFirstEntry}
 use Rattle.checkpoint_log.specs.Laws.{two_names}
 use Rattle.checkpoint_log.specs.Look.{IsHead}
 
@@ -49,7 +49,7 @@ fourteen i = elim (cases_lt i 14) [
   | inr past ↦ get_or_past (0 ∷ 0 ∷ 0 ∷ 0 ∷ 0 ∷ 0 ∷ 0 ∷ 0 ∷ 0 ∷ 0 ∷ 0 ∷ 0 ∷ 0 ∷ 0 ∷ []) i 0 past
 ]
 
--- what was read at the front of a file
+-- what was read at the beginning of a file
 pub head_is : (file into zeros : List ℕ) (n : ℕ) → n ≡ min 14 (length file) → into ≡ take n file ++ drop n zeros → ((i : ℕ) → byte zeros i ≡ 0) →
     IsHead into file
 head_is file into zeros n n_is is zero_is i within =
@@ -81,7 +81,7 @@ entry_long : (file : List ℕ) (e : ℕ × List ℕ) (more : List ℕ) → file 
 entry_long file e more is = omega (arith, ap length is, length-append (entry e) more, length-entry e)
 
 -- the length that a slot with a beginning has there
-pub len_of : (file : List ℕ) (m : ℕ) (begins : Begins file m) → from_be_bytes w32 (four file) ≡ length begins.first.1
+pub len_of : (file : List ℕ) (m : ℕ) (begins : HasFirstEntry file m) → from_be_bytes w32 (four file) ≡ length begins.first.1
 len_of file m begins =
     let e = begins.first in
     let h = to_be_bytes w32 (length e.1) in
@@ -96,7 +96,7 @@ first_byte : (file tail : List ℕ) (b : ℕ) → drop 5 file ≡ b ∷ tail →
 first_byte file tail b is = sym (get_or-drop 5 file 0 0) ∙ ap (λ (l : List ℕ). byte l 0) is
 
 -- and what it says
-says_of : (file : List ℕ) (m : ℕ) (begins : Begins file m) → Says begins.first.1 m
+says_of : (file : List ℕ) (m : ℕ) (begins : HasFirstEntry file m) → HasNumber begins.first.1 m
     → ((byte file 5 ≡ 17) × (m ≡ 0)) ⊎ ((byte file 5 ≡ 25) × (9 ≤ length begins.first.1) × (1 ≤ m) × (from_be_bytes w64 (eight file) ≡ m))
 says_of file m begins (inl store) =
     inl (
@@ -132,7 +132,7 @@ parity_of m odd lt same = elim (cases_eq (m % 2) 0) [
 
 -- a slot whose first entry is cut begins with no number
 pub cut_begins : (into file : List ℕ) (len m : ℕ) → IsHead into file → len ≡ from_be_bytes w32 (four into) →
-    (1 ≤ len → len ≤ most_payload → 5 + len ≤ length file → ⊥) → Begins file m → ⊥
+    (1 ≤ len → len ≤ most_payload → 5 + len ≤ length file → ⊥) → HasFirstEntry file m → ⊥
 cut_begins into file len m head len_is wrong begins =
     let size : len ≡ length begins.first.1 = len_is ∙ ap (from_be_bytes w32) (four_same into file head) ∙ len_of file m begins in
     wrong (omega (arith, size, begins.good.some)) (omega (arith, size, begins.good.fits))
@@ -141,7 +141,7 @@ cut_begins into file len m head len_is wrong begins =
 -- nor does one whose payload has none of the two beginnings
 pub none_begins : (into file : List ℕ) (odd len number m : ℕ) → odd < 2 → IsHead into file → len ≡ from_be_bytes w32 (four into) →
     number ≡ from_be_bytes w64 (eight into)
-    → (odd ≡ 0 → byte into 5 ≡ 17 → ⊥) → (9 ≤ len → byte into 5 ≡ 25 → 1 ≤ number → number % 2 ≡ odd → ⊥) → slot m ≡ slot odd → Begins file m → ⊥
+    → (odd ≡ 0 → byte into 5 ≡ 17 → ⊥) → (9 ≤ len → byte into 5 ≡ 25 → 1 ≤ number → number % 2 ≡ odd → ⊥) → slot m ≡ slot odd → HasFirstEntry file m → ⊥
 none_begins into file odd len number m lt head len_is number_is no_store no_turn same begins =
     let size : len ≡ length begins.first.1 = len_is ∙ ap (from_be_bytes w32) (four_same into file head) ∙ len_of file m begins in
     let fifth : byte into 5 ≡ byte file 5 = head 5 (omega arith) in
@@ -179,7 +179,7 @@ not_nothing (x ∷ rest) more tail b some is = (rest, ap (λ (n : ℕ). n ∷ re
 -- it begins a store
 pub begins_store : (into file : List ℕ) (len : ℕ) → IsHead into file → ((i : ℕ) → byte into i < 256) → byte into 0 ≢ 0 → len ≡ from_be_bytes w32 (four into) →
     1 ≤ len → len ≤ most_payload → 5 + len ≤ length file
-    → byte into 5 ≡ 17 → Begins file 0
+    → byte into 5 ≡ 17 → HasFirstEntry file 0
 begins_store into file len head small is_open len_is some fits within fifth =
     let w = whole into file len head small is_open len_is some fits within in
     let at : drop 5 file ≡ 17 ∷ drop 6 file = drop-cons file 5 0 (omega (arith, some, within)) ∙ ap (λ (n : ℕ). n ∷ drop 6 file)
@@ -190,7 +190,7 @@ begins_store into file len head small is_open len_is some fits within fifth =
 -- it begins a turn
 pub begins_turn : (into file : List ℕ) (len number : ℕ) → IsHead into file → ((i : ℕ) → byte into i < 256) → byte into 0 ≢ 0 →
     len ≡ from_be_bytes w32 (four into) → 9 ≤ len → len ≤ most_payload → 5 + len ≤ length file
-    → byte into 5 ≡ 25 → number ≡ from_be_bytes w64 (eight into) → 1 ≤ number → number < 18446744073709551616 → Begins file number
+    → byte into 5 ≡ 25 → number ≡ from_be_bytes w64 (eight into) → 1 ≤ number → number < 18446744073709551616 → HasFirstEntry file number
 begins_turn into file len number head small is_open len_is nine fits within fifth number_is some below =
     let w = whole into file len head small is_open len_is (omega (arith, nine)) fits within in
     let k = to_be_bytes w64 number in

@@ -6,19 +6,19 @@ use Rattle.std.specs.Ordering.{is_lt, nat_cmp}
 use Rattle.std.specs.Cmp.{nat_cmp_is}
 use Rattle.std.specs.Int.{w64, to_be_bytes}
 use Rattle.std.proofs.lemmas.Bool.{cases_eq}
-use Rattle.disk_model.specs.Disk.{Image, Holds, Step, Torn, After, Settled, Leaves, DiskLaws}
+use Rattle.disk_model.specs.Disk.{Image, IsPutAt, Step, Torn, IsAfter, Settled, HasLeft, DiskLaws}
 use Rattle.disk_model.specs.Moments.{weaker, tells_of, joined, now, then_same, then_on, at_start}
-use Rattle.gate_log.specs.Entries.{journal, ClosedAt, Entries, HoldsNone}
-use Rattle.gate_log.specs.Journal.{Within, AreSettled, IsBehind, BeforeOrAfter, none_in, files_of, stands_in, entries_in}
+use Rattle.gate_log.specs.Entries.{journal, ClosedAt, HasEntries, HoldsNone}
+use Rattle.gate_log.specs.Journal.{IsChangeIn, AreSettled, IsBehind, BeforeOrAfter, none_in, files_of, stands_in, entries_in}
 use Rattle.gate_log.specs.Laws.{none_of}
 use Rattle.gate_log.specs.Place.{IsEntryAt}
 use Rattle.gate_log.specs.Turned.{IsPut, BeginsStore, BeginsTurn, BeforeOrPut}
-use Rattle.gate_log.proofs.Writes.{keeps_front}
-use Rattle.checkpoint_log.specs.Beginnings.{second, slot, Begins, FirstSays, IsOlder}
-use Rattle.checkpoint_log.specs.Turns.{IsShutOn, KeepsFront}
+use Rattle.gate_log.proofs.Writes.{keeps_prefix}
+use Rattle.checkpoint_log.specs.Beginnings.{second, slot, HasFirstEntry, FirstSays, IsOlder}
+use Rattle.checkpoint_log.specs.Turns.{IsShutOn, KeepsStart}
 use Rattle.checkpoint_log.specs.Laws.{two_names, other_name, of_slots, two_on, first_begins, none_by, older_none, slots_one, slots_hold}
 use Rattle.checkpoint_log.specs.Slots.{slots_files, slots_none, slots_entries, SlotsStand, slots_stands, slots_put, IsPutWith}
-use Rattle.checkpoint_log.proofs.Opened.{shut_none, keeps_shut, torn_front, front_gate, put_one, put_some}
+use Rattle.checkpoint_log.proofs.Opened.{shut_none, keeps_shut, torn_start, first_gate, put_one, put_some}
 use Rattle.checkpoint_log.specs.declared.slots.Slots.{Slots}
 
 -- the live slot stays, and the other one is still older
@@ -53,9 +53,9 @@ others_stay log file is b c others = (
   others (slot log.number) (λ same. other_name log.number (sym (same ∙ is))),
 )
 
--- while the front of the other slot stays closed
+-- while the beginning of the other slot stays closed
 pub kept_older : (log : Slots) (a : Image) (b : List ℕ) (payloads : List (List ℕ)) → IsTrue log.begun → SlotsStand log a payloads →
-    KeepsFront (a (slot (log.number + 1))) b
+    KeepsStart (a (slot (log.number + 1))) b
     → IsOlder (slot (log.number + 1)) b log.number
 kept_older log a b payloads begun h kept =
     let was = h.begun begun in
@@ -73,7 +73,7 @@ left_behind log a c payloads h same =
         n,
         omega arith,
         sym (two_on n),
-        subst (λ (l : List ℕ). Begins l n) (sym file)
+        subst (λ (l : List ℕ). HasFirstEntry l n) (sym file)
             (first_begins (a (slot n)) n log.live.end payloads h.closed says),
       )
       | inr empty ↦ inl (subst (λ (l : List ℕ). HoldsNone l) (sym file)
@@ -135,8 +135,8 @@ module _ {D : Type 0} {is_modelled : Bool} {seen : D → Image} {may_leave : D �
       → IsBehind may_leave slots_stands log old payloads
       → (IsTrue is_modelled → (a : Image) (b : List ℕ) → SlotsStand log a payloads → Q (a (slot (log.number + 1))) b →
       IsOlder (slot (log.number + 1)) b log.number)
-      → Leaves moment left_since old new (After (may_leave old) (Step file Q))
-      → Leaves moment left_since old new (After (may_leave old) (Within slots_files (λ c. slots_entries c payloads)))
+      → HasLeft moment left_since old new (IsAfter (may_leave old) (Step file Q))
+      → HasLeft moment left_since old new (IsAfter (may_leave old) (IsChangeIn slots_files (λ c. slots_entries c payloads)))
   live_stays log old new payloads file Q is behind gives leaves = weaker laws old new _ _
       (λ c was.
       let h = behind.each was.0 was.1 in
@@ -146,13 +146,13 @@ module _ {D : Type 0} {is_modelled : Bool} {seen : D → Image} {may_leave : D �
       (was.0, was.1, record { here = entries_on log was.0 c payloads h stay.1 older; others = stay.0 }))
       leaves
 
-  -- a closing of the front, where it is not closed, over a file that is stable
-  pub shut_moments : (file : List ℕ) (old mid read new : D) → Leaves moment left_since old mid (may_leave old) → Settled (may_leave mid) file (seen mid file)
-      → Leaves moment left_since mid read (may_leave mid) → Leaves moment left_since read new (After (may_leave read) (Step file (Torn 0 1)))
+  -- a closing of the beginning, where it is not closed, over a file that is stable
+  pub shut_moments : (file : List ℕ) (old mid read new : D) → HasLeft moment left_since old mid (may_leave old) → Settled (may_leave mid) file (seen mid file)
+      → HasLeft moment left_since mid read (may_leave mid) → HasLeft moment left_since read new (IsAfter (may_leave read) (Step file (Torn 0 1)))
       → (IsTrue is_modelled → (get_or (seen mid file) 0 0 ≢ 0) ⊎ (length (seen mid file) ≡ 0))
-      → Leaves moment left_since old new (After (may_leave old) (Step file IsShutOn))
+      → HasLeft moment left_since old new (IsAfter (may_leave old) (Step file IsShutOn))
   shut_moments file old mid read new first settled second third some =
-      joined laws old read new (may_leave old) (After (may_leave read) (Step file (Torn 0 1))) (After (may_leave old) (Step file IsShutOn))
+      joined laws old read new (may_leave old) (IsAfter (may_leave read) (Step file (Torn 0 1))) (IsAfter (may_leave old) (Step file IsShutOn))
       (then_same laws old mid read (may_leave old) first second) third
       (λ c left. (c, left, record { here = inl refl; others = λ name ne. refl }))
       (λ c was.
@@ -169,51 +169,51 @@ module _ {D : Type 0} {is_modelled : Bool} {seen : D → Image} {may_leave : D �
 
   -- no call
   pub no_call : (file : List ℕ) (old : D) (Q : List ℕ → List ℕ → Type 0) → ((a : List ℕ) → Q a a) →
-      Leaves moment left_since old old (After (may_leave old) (Step file Q))
+      HasLeft moment left_since old old (IsAfter (may_leave old) (Step file Q))
   no_call file old Q none = weaker laws old old _ _ (λ c left. (c, left, record { here = none (c file); others = λ name ne. refl })) (at_start laws old)
 
   -- no call of a turn
   pub live_rests : (log : Slots) (old : D) (payloads : List (List ℕ)) → IsBehind may_leave slots_stands log old payloads
-      → Leaves moment left_since old old (After (may_leave old) (Within slots_files (λ c. slots_entries c payloads)))
+      → HasLeft moment left_since old old (IsAfter (may_leave old) (IsChangeIn slots_files (λ c. slots_entries c payloads)))
   live_rests log old payloads behind = weaker laws old old _ _
       (λ c left. (c, left, record { here = slots_hold log c payloads (behind.each c left); others = λ name ne. refl })) (at_start laws old)
 
   -- a write behind the first byte
   pub keeps_moments : (file : List ℕ) (old new : D) (at n : ℕ) → (IsTrue is_modelled → 1 ≤ at) →
-      Leaves moment left_since old new (After (may_leave old) (Step file (Torn at n)))
-      → Leaves moment left_since old new (After (may_leave old) (Step file KeepsFront))
+      HasLeft moment left_since old new (IsAfter (may_leave old) (Step file (Torn at n)))
+      → HasLeft moment left_since old new (IsAfter (may_leave old) (Step file KeepsStart))
   keeps_moments file old new at n some leaves = weaker laws old new _ _
-      (λ c was. (was.0, was.1, record { here = keeps_front 1 at n _ _ (some (tells_of laws old was.0 was.1)) was.2.here; others = was.2.others })) leaves
+      (λ c was. (was.0, was.1, record { here = keeps_prefix 1 at n _ _ (some (tells_of laws old was.0 was.1)) was.2.here; others = was.2.others })) leaves
 
   -- and one more
   pub keeps_more : (file : List ℕ) (old mid new : D) (at n : ℕ) → (IsTrue is_modelled → 1 ≤ at) →
-      Leaves moment left_since old mid (After (may_leave old) (Step file KeepsFront))
-      → Leaves moment left_since mid new (After (may_leave mid) (Step file (Torn at n))) →
-      Leaves moment left_since old new (After (may_leave old) (Step file KeepsFront))
+      HasLeft moment left_since old mid (IsAfter (may_leave old) (Step file KeepsStart))
+      → HasLeft moment left_since mid new (IsAfter (may_leave mid) (Step file (Torn at n))) →
+      HasLeft moment left_since old new (IsAfter (may_leave old) (Step file KeepsStart))
   keeps_more file old mid new at n some first second =
-      then_on laws file old mid new KeepsFront KeepsFront KeepsFront first (keeps_moments file mid new at n some second) (λ a b kept. kept)
+      then_on laws file old mid new KeepsStart KeepsStart KeepsStart first (keeps_moments file mid new at n some second) (λ a b kept. kept)
       (λ a b d kept more. more ∙ kept)
 
-  -- each image now has the other slot closed at its front
+  -- each image now has the other slot closed at its beginning
   pub shut_stands : (log later : Slots) (old new : D) (payloads : List (List ℕ)) (file : List ℕ) → later.live.end ≡ log.live.end → later.number ≡ log.number →
       file ≡ slot (log.number + 1)
-      → IsBehind may_leave slots_stands log old payloads → Leaves moment left_since old new (After (may_leave old) (Step file IsShutOn))
+      → IsBehind may_leave slots_stands log old payloads → HasLeft moment left_since old new (IsAfter (may_leave old) (Step file IsShutOn))
       → Settled (may_leave new) file (seen new file) → (IsTrue is_modelled → (more : List ℕ) × (seen new file ≡ 0 ∷ more))
       → IsBehind may_leave slots_stands later new payloads
   shut_stands log later old new payloads file end_is number_is is behind leaves settled shut = record {
     each = λ c left.
         let was = now laws old new _ leaves c left in
         let stay = others_stay log file is was.0 c was.2.others in
-        let front = shut (tells_of laws new c left) in
-        let closed : c (slot (log.number + 1)) ≡ 0 ∷ front.0 = ap c (sym is) ∙ settled c left ∙ front.1 in
-        stand_on log later was.0 c payloads end_is number_is (behind.each was.0 was.1) stay.1 (inl (shut_none _ front.0 closed)) (λ yes. (front.0, closed));
+        let start = shut (tells_of laws new c left) in
+        let closed : c (slot (log.number + 1)) ≡ 0 ∷ start.0 = ap c (sym is) ∙ settled c left ∙ start.1 in
+        stand_on log later was.0 c payloads end_is number_is (behind.each was.0 was.1) stay.1 (inl (shut_none _ start.0 closed)) (λ yes. (start.0, closed));
   }
 
   -- and still has it
   pub keep_stands : (log later : Slots) (old new : D) (payloads : List (List ℕ)) (file : List ℕ) → later.live.end ≡ log.live.end → later.number ≡ log.number →
       file ≡ slot (log.number + 1)
       → (IsTrue is_modelled → IsTrue log.begun) → IsBehind may_leave slots_stands log old payloads →
-      Leaves moment left_since old new (After (may_leave old) (Step file KeepsFront))
+      HasLeft moment left_since old new (IsAfter (may_leave old) (Step file KeepsStart))
       → IsBehind may_leave slots_stands later new payloads
   keep_stands log later old new payloads file end_is number_is is begun behind leaves = record {
     each = λ c left.
@@ -222,25 +222,25 @@ module _ {D : Type 0} {is_modelled : Bool} {seen : D → Image} {may_leave : D �
         let h = behind.each was.0 was.1 in
         let before = h.begun (begun (tells_of laws new c left)) in
         let still = keeps_shut (was.0 (slot (log.number + 1))) (c (slot (log.number + 1))) before.0 before.1
-        (subst (λ (name : List ℕ). KeepsFront (was.0 name) (c name)) is was.2.here) in
+        (subst (λ (name : List ℕ). KeepsStart (was.0 name) (c name)) is was.2.here) in
         stand_on log later was.0 c payloads end_is number_is h stay.1 (inl (shut_none _ still.0 still.1)) (λ yes. still);
   }
 
   pub keep_moments : (log : Slots) (old new : D) (payloads : List (List ℕ)) (file : List ℕ) → file ≡ slot (log.number + 1)
       → (IsTrue is_modelled → IsTrue log.begun) → IsBehind may_leave slots_stands log old payloads →
-      Leaves moment left_since old new (After (may_leave old) (Step file KeepsFront))
-      → Leaves moment left_since old new (After (may_leave old) (Within slots_files (λ c. slots_entries c payloads)))
+      HasLeft moment left_since old new (IsAfter (may_leave old) (Step file KeepsStart))
+      → HasLeft moment left_since old new (IsAfter (may_leave old) (IsChangeIn slots_files (λ c. slots_entries c payloads)))
   keep_moments log old new payloads file is begun behind leaves =
-      live_stays log old new payloads file KeepsFront is behind (λ told a b h kept. kept_older log a b payloads (begun told) h kept) leaves
+      live_stays log old new payloads file KeepsStart is behind (λ told a b h kept. kept_older log a b payloads (begun told) h kept) leaves
 
   -- the moments of the opening
   pub turn_moments : (log : Slots) (old mid new : D) (payloads more : List (List ℕ)) (file : List ℕ) (end : ℕ) → file ≡ slot (log.number + 1)
       → (IsTrue is_modelled → IsTrue log.begun) → IsBehind may_leave slots_stands log old payloads →
-      Leaves moment left_since old mid (After (may_leave old) (Step file KeepsFront))
+      HasLeft moment left_since old mid (IsAfter (may_leave old) (Step file KeepsStart))
       → Settled (may_leave mid) file (seen mid file) → (IsTrue is_modelled → IsPutWith (0 ∷ []) (seen mid file) end more) →
       (IsTrue is_modelled → FirstSays more (log.number + 1))
-      → Leaves moment left_since mid new (After (may_leave mid) (Step file (Torn 0 1)))
-      → Leaves moment left_since old new (After (may_leave old) (Within slots_files (BeforeOrPut slots_entries payloads more)))
+      → HasLeft moment left_since mid new (IsAfter (may_leave mid) (Step file (Torn 0 1)))
+      → HasLeft moment left_since old new (IsAfter (may_leave old) (IsChangeIn slots_files (BeforeOrPut slots_entries payloads more)))
   turn_moments log old mid new payloads more file end is begun behind first settled put says second =
       joined laws old mid new _ _ _ (keep_moments log old mid payloads file is begun behind first) second
       (λ c was. (was.0, was.1, record { here = inl was.2.here; others = was.2.others }))
@@ -252,9 +252,9 @@ module _ {D : Type 0} {is_modelled : Bool} {seen : D → Image} {may_leave : D �
       let stayed = others_stay log file is before.0 was.0 before.2.others in
       let live : c (slot log.number) ≡ before.0 (slot log.number) = stay.1 ∙ stayed.1 in
       let there = put told in
-      let front : was.0 file ≡ 0 ∷ there.there.behind = settled was.0 was.1 ∙ there.there.file_is in
+      let start : was.0 file ≡ 0 ∷ there.there.behind = settled was.0 was.1 ∙ there.there.file_is in
       let gate = get_or (c file) 0 0 in
-      let whole : c (slot (log.number + 1)) ≡ gate ∷ there.there.behind = ap c (sym is) ∙ torn_front (was.0 file) (c file) 0 there.there.behind front
+      let whole : c (slot (log.number + 1)) ≡ gate ∷ there.there.behind = ap c (sym is) ∙ torn_start (was.0 file) (c file) 0 there.there.behind start
       was.2.here in
       let first_says = says told in (
         before.0,
@@ -265,7 +265,7 @@ module _ {D : Type 0} {is_modelled : Bool} {seen : D → Image} {may_leave : D �
                 (inl (shut_none _ there.there.behind (whole ∙ ap (λ (n : ℕ). n ∷ there.there.behind) shut))))
             | inr is_open ↦ inr (slots_hold (later_log log end) c more
                 (turned_on log (later_log log end) before.0 c payloads more refl (λ yes. (let no : ⊥ = cc in no)) h live
-                (front_gate (c (slot (log.number + 1))) gate end first_says.first first_says.others more _ is_open first_says.is there whole) first_says))
+                (first_gate (c (slot (log.number + 1))) gate end first_says.first first_says.others more _ is_open first_says.is there whole) first_says))
           ];
           others = λ name outside. stay.0 name outside ∙ stayed.0 name outside;
         },
@@ -274,10 +274,10 @@ module _ {D : Type 0} {is_modelled : Bool} {seen : D → Image} {may_leave : D �
   -- and what is there after it
   pub turn_stands : (log later : Slots) (old mid new : D) (payloads more : List (List ℕ)) (file : List ℕ) → later.number ≡ log.number + 1 →
       ¬ (IsTrue later.begun) → file ≡ slot (log.number + 1)
-      → IsBehind may_leave slots_stands log old payloads → Leaves moment left_since old mid (After (may_leave old) (Step file KeepsFront))
+      → IsBehind may_leave slots_stands log old payloads → HasLeft moment left_since old mid (IsAfter (may_leave old) (Step file KeepsStart))
       → (IsTrue is_modelled → IsPutWith (0 ∷ []) (seen mid file) later.live.end more) → (IsTrue is_modelled → FirstSays more (log.number + 1))
-      → Leaves moment left_since mid new (After (may_leave mid) (Step file (Torn 0 1)))
-      → Settled (may_leave new) file (seen new file) → (IsTrue is_modelled → Holds 0 (1 ∷ []) (seen mid file) (seen new file))
+      → HasLeft moment left_since mid new (IsAfter (may_leave mid) (Step file (Torn 0 1)))
+      → Settled (may_leave new) file (seen new file) → (IsTrue is_modelled → IsPutAt 0 (1 ∷ []) (seen mid file) (seen new file))
       → IsBehind may_leave slots_stands later new more
   turn_stands log later old mid new payloads more file number_is rests is behind first put says second settled holds = record {
     each = λ c left.
@@ -292,7 +292,7 @@ module _ {D : Type 0} {is_modelled : Bool} {seen : D → Image} {may_leave : D �
         let whole : c (slot (log.number + 1)) ≡ 1 ∷ there.there.behind =
         ap c (sym is) ∙ settled c left ∙ holds told ∙ ap (λ (l : List ℕ). 1 ∷ drop 1 l) there.there.file_is in
         turned_on log later before.0 c payloads more number_is rests h (stay.1 ∙ stayed.1)
-        (front_gate (c (slot (log.number + 1))) 1 later.live.end first_says.first first_says.others more _ (λ z. absurd (omega (arith, z))) first_says.is
+        (first_gate (c (slot (log.number + 1))) 1 later.live.end first_says.first first_says.others more _ (λ z. absurd (omega (arith, z))) first_says.is
         there whole) first_says;
   }
 
@@ -301,7 +301,7 @@ module _ {D : Type 0} {is_modelled : Bool} {seen : D → Image} {may_leave : D �
 -- a list that the live slot has, with a beginning that it may have
 pub live_entries : (log : Slots) (a c : Image) (payloads now_there : List (List ℕ)) → SlotsStand log a payloads →
     c (slot (log.number + 1)) ≡ a (slot (log.number + 1))
-    → Entries (c (slot log.number)) now_there → FirstSays now_there log.number ⊎ ((now_there ≡ []) × (log.number ≡ 0)) → slots_entries c now_there
+    → HasEntries (c (slot log.number)) now_there → FirstSays now_there log.number ⊎ ((now_there ≡ []) × (log.number ≡ 0)) → slots_entries c now_there
 live_entries log a c payloads now_there h same there (inl says) =
     let older : IsOlder (slot (log.number + 1)) (c (slot (log.number + 1))) log.number = subst (λ (l : List ℕ). IsOlder (slot (log.number + 1)) l log.number)
     (sym same) h.older in
@@ -313,7 +313,7 @@ live_entries log a c payloads now_there h same there (inr empty) =
     let older : IsOlder (slot (log.number + 1)) (c (slot (log.number + 1))) log.number = subst (λ (l : List ℕ). IsOlder (slot (log.number + 1)) l log.number)
     (sym same) h.older in
     inl (
-      none_by c log.number (none_of (c (slot log.number)) (subst (λ (l : List (List ℕ)). Entries (c (slot log.number)) l) empty.0 there))
+      none_by c log.number (none_of (c (slot log.number)) (subst (λ (l : List (List ℕ)). HasEntries (c (slot log.number)) l) empty.0 there))
           (older_none _ _ log.number empty.1 older),
       empty.0,
     )
@@ -378,8 +378,8 @@ module _ {D : Type 0} {is_modelled : Bool} {seen : D → Image} {may_leave : D �
   pub append_moments : (log : Slots) (old new : D) (payloads : List (List ℕ)) (payload file : List ℕ) → file ≡ slot log.number →
       IsBehind may_leave slots_stands log old payloads
       → (IsTrue is_modelled → SlotsStand log (seen old) [] → BeginsStore payload)
-      → Leaves moment left_since old new (After (may_leave old) (Within (files_of file) (BeforeOrAfter (entries_in file) payloads payload)))
-      → Leaves moment left_since old new (After (may_leave old) (Within slots_files (BeforeOrAfter slots_entries payloads payload)))
+      → HasLeft moment left_since old new (IsAfter (may_leave old) (IsChangeIn (files_of file) (BeforeOrAfter (entries_in file) payloads payload)))
+      → HasLeft moment left_since old new (IsAfter (may_leave old) (IsChangeIn slots_files (BeforeOrAfter slots_entries payloads payload)))
   append_moments log old new payloads payload file is behind first leaves = weaker laws old new _ _
       (λ c was.
       let h = behind.each was.0 was.1 in
@@ -388,9 +388,9 @@ module _ {D : Type 0} {is_modelled : Bool} {seen : D → Image} {may_leave : D �
         was.1,
         record {
           here = elim was.2.here [
-            | inl before ↦ inl (live_entries log was.0 c payloads payloads h stay.1 (subst (λ (name : List ℕ). Entries (c name) payloads) is before) h.says)
+            | inl before ↦ inl (live_entries log was.0 c payloads payloads h stay.1 (subst (λ (name : List ℕ). HasEntries (c name) payloads) is before) h.says)
             | inr after ↦ inr (live_entries log was.0 c payloads (payloads ++ payload ∷ []) h stay.1
-                (subst (λ (name : List ℕ). Entries (c name) (payloads ++ payload ∷ [])) is after)
+                (subst (λ (name : List ℕ). HasEntries (c name) (payloads ++ payload ∷ [])) is after)
                 (inl (says_more payloads payload log.number h.says (first_of_all log old payloads payload was.0 was.1 behind first))))
           ];
           others = stay.0;
@@ -401,7 +401,7 @@ module _ {D : Type 0} {is_modelled : Bool} {seen : D → Image} {may_leave : D �
   pub append_stands : (log later : Slots) (old new : D) (payloads : List (List ℕ)) (payload file : List ℕ) → later.number ≡ log.number →
       later.begun ≡ log.begun → file ≡ slot log.number
       → IsBehind may_leave slots_stands log old payloads → (IsTrue is_modelled → SlotsStand log (seen old) [] → BeginsStore payload)
-      → Leaves moment left_since old new (After (may_leave old) (Within (files_of file) (BeforeOrAfter (entries_in file) payloads payload)))
+      → HasLeft moment left_since old new (IsAfter (may_leave old) (IsChangeIn (files_of file) (BeforeOrAfter (entries_in file) payloads payload)))
       → IsBehind may_leave (stands_in file) later.live new (payloads ++ payload ∷ [])
       → IsBehind may_leave slots_stands later new (payloads ++ payload ∷ [])
   append_stands log later old new payloads payload file number_is begun_is is behind first leaves added = record {
@@ -419,8 +419,8 @@ module _ {D : Type 0} {is_modelled : Bool} {seen : D → Image} {may_leave : D �
           older = subst (λ (n : ℕ). IsOlder (slot (n + 1)) (c (slot (n + 1))) n) (sym number_is)
               (subst (λ (l : List ℕ). IsOlder (slot (log.number + 1)) l log.number) (sym stay.1) h.older);
           begun = λ yes.
-              let front = h.begun (subst (λ (b : Bool). IsTrue b) begun_is yes) in
-              subst (λ (n : ℕ). (tail : List ℕ) × (c (slot (n + 1)) ≡ 0 ∷ tail)) (sym number_is) (front.0, stay.1 ∙ front.1);
+              let start = h.begun (subst (λ (b : Bool). IsTrue b) begun_is yes) in
+              subst (λ (n : ℕ). (tail : List ℕ) × (c (slot (n + 1)) ≡ 0 ∷ tail)) (sym number_is) (start.0, stay.1 ∙ start.1);
         };
   }
 
@@ -428,7 +428,7 @@ module _ {D : Type 0} {is_modelled : Bool} {seen : D → Image} {may_leave : D �
 pub made_stands : {D : Type 0} {is_modelled : Bool} {seen : D → Image} {may_leave : D → Image → Type 0} {moment : D → ℕ} {left_since : D → ℕ → Image → Type 0}
     → DiskLaws is_modelled seen may_leave moment left_since → (log : Slots) (old new : D) → log.number ≡ 0 → ¬ (IsTrue log.begun) →
     (IsTrue is_modelled → slots_none (seen old)) → AreSettled seen may_leave slots_files old
-    → Leaves moment left_since old new (After (may_leave old) (Within (files_of journal) (none_in journal)))
+    → HasLeft moment left_since old new (IsAfter (may_leave old) (IsChangeIn (files_of journal) (none_in journal)))
     → IsBehind may_leave (stands_in journal) log.live new []
     → IsBehind may_leave slots_stands log new []
 made_stands laws log old new zero_is rests none settled leaves stands = record {

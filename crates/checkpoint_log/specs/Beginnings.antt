@@ -23,29 +23,29 @@ pub record BeginsAs (payload : List ℕ) (number : ℕ) : Type 0 where
   pub rest : List ℕ
   pub is : payload ≡ 25 ∷ to_be_bytes w64 number ++ rest
 
-abbrev pub Says : List ℕ → ℕ → Type 0
-Says payload number = (BeginsStore payload × (number ≡ 0)) ⊎ BeginsAs payload number
+abbrev pub HasNumber : List ℕ → ℕ → Type 0
+HasNumber payload number = (BeginsStore payload × (number ≡ 0)) ⊎ BeginsAs payload number
 
 -- the slot's first entry is whole, and its payload begins as that of this number
-pub record Begins (file : List ℕ) (number : ℕ) : Type 0 where
+pub record HasFirstEntry (file : List ℕ) (number : ℕ) : Type 0 where
   pub first : ℕ × List ℕ
   pub more : List ℕ
   pub good : IsGood first
   pub file_is : file ≡ entry first ++ more
-  pub says : Says first.1 number
+  pub says : HasNumber first.1 number
 
 -- the first of these payloads begins as that of this number
 pub record FirstSays (payloads : List (List ℕ)) (number : ℕ) : Type 0 where
   pub first : List ℕ
   pub others : List (List ℕ)
   pub is : payloads ≡ first ∷ others
-  pub says : Says first number
+  pub says : HasNumber first number
 
 -- this slot holds no entry, or begins with a number of its own that is smaller
 abbrev pub IsOlder : List ℕ → List ℕ → ℕ → Type 0
-IsOlder name file number = HoldsNone file ⊎ ((m : ℕ) × (m < number) × (slot m ≡ name) × Begins file m)
+IsOlder name file number = HoldsNone file ⊎ ((m : ℕ) × (m < number) × (slot m ≡ name) × HasFirstEntry file m)
 
 -- it holds an entry whose payload has no beginning that it may have
 pub record IsBadSlot (name file : List ℕ) : Type 0 where
   pub some : ¬ (HoldsNone file)
-  pub none : (m : ℕ) → slot m ≡ name → ¬ (Begins file m)
+  pub none : (m : ℕ) → slot m ≡ name → ¬ (HasFirstEntry file m)

@@ -10,7 +10,7 @@ use Rattle.gate_log.specs.Entries.{journal, entry, joined, AllGood, ClosedAt, Ho
 use Rattle.gate_log.specs.Journal.{JournalLaws}
 use Rattle.gate_log.specs.Laws.{entry_same, entries_same, damaged_holds_none, none_of, place_joined, length-entry}
 use Rattle.gate_log.specs.Place.{place_behind}
-use Rattle.checkpoint_log.specs.Beginnings.{second, named, slot, Says, Begins, FirstSays, IsOlder, IsBadSlot}
+use Rattle.checkpoint_log.specs.Beginnings.{second, named, slot, HasNumber, HasFirstEntry, FirstSays, IsOlder, IsBadSlot}
 use Rattle.checkpoint_log.specs.Slots.{slots_files, slots_none, IsLive, slots_entries, slots_damaged, slots_stands}
 use Rattle.checkpoint_log.specs.declared.slots.Slots.{Slots}
 
@@ -62,7 +62,7 @@ of_slots n = elim (beside n) [
 
 -- ---- beginnings
 
-says_one : (payload : List ℕ) (n m : ℕ) → Says payload n → Says payload m → n ≡ m
+says_one : (payload : List ℕ) (n m : ℕ) → HasNumber payload n → HasNumber payload m → n ≡ m
 says_one payload n m (inl a) (inl b) = a.1 ∙ sym b.1
 says_one payload n m (inl a) (inr b) = absurd (omega (arith, ap (λ (l : List ℕ). get_or l 0 0) (sym a.0.is ∙ b.is)))
 says_one payload n m (inr a) (inl b) = absurd (omega (arith, ap (λ (l : List ℕ). get_or l 0 0) (sym a.is ∙ b.0.is)))
@@ -74,50 +74,51 @@ says_one payload n m (inr a) (inr b) =
     sym (from_be_bytes-to_be_bytes_8 n (omega (arith, a.small))) ∙ ap (from_be_bytes w64) heads ∙ from_be_bytes-to_be_bytes_8 m (omega (arith, b.small))
 
 -- a slot has one number
-pub begins_one : (file : List ℕ) (n m : ℕ) → Begins file n → Begins file m → n ≡ m
+pub begins_one : (file : List ℕ) (n m : ℕ) → HasFirstEntry file n → HasFirstEntry file m → n ≡ m
 begins_one file n m a b =
     let one = entry_same a.first b.first a.more b.more a.good b.good (sym a.file_is ∙ b.file_is) in
-    says_one b.first.1 n m (subst (λ (l : List ℕ). Says l n) one.0 a.says) b.says
+    says_one b.first.1 n m (subst (λ (l : List ℕ). HasNumber l n) one.0 a.says) b.says
 
 -- a slot that begins holds an entry
-pub begins_some : (file : List ℕ) (n : ℕ) → Begins file n → HoldsNone file → ⊥
+pub begins_some : (file : List ℕ) (n : ℕ) → HasFirstEntry file n → HoldsNone file → ⊥
 begins_some file n a (inl short) = absurd (omega (arith, short, ap length a.file_is, length-append (entry a.first) a.more, length-entry a.first))
 begins_some file n a (inr shut) = a.good.is_open (sym (ap (λ (l : List ℕ). get_or l 0 0) a.file_is) ∙ shut)
 
 -- a slot whose list of entries begins so begins so
-pub first_begins : (file : List ℕ) (n end : ℕ) (payloads : List (List ℕ)) → ClosedAt file end payloads → FirstSays payloads n → Begins file n
+pub first_begins : (file : List ℕ) (n end : ℕ) (payloads : List (List ℕ)) → ClosedAt file end payloads → FirstSays payloads n → HasFirstEntry file n
 first_begins file n end payloads closed says = by_entries closed.entries closed.good closed.payloads_are closed.file_is
   where
-    by_entries : (es : List (ℕ × List ℕ)) → AllGood es → map (λ (e : ℕ × List ℕ). e.1) es ≡ payloads → file ≡ joined es ++ 0 ∷ closed.tail → Begins file n
+    by_entries : (es : List (ℕ × List ℕ)) → AllGood es → map (λ (e : ℕ × List ℕ). e.1) es ≡ payloads → file ≡ joined es ++ 0 ∷ closed.tail
+        → HasFirstEntry file n
     by_entries [] good are is = absurd (omega (arith, ap length (are ∙ says.is)))
     by_entries (e ∷ es) good are is = record {
       first = e;
       more = joined es ++ 0 ∷ closed.tail;
       good = good.0;
       file_is = is ∙ append_assoc (entry e) (joined es) (0 ∷ closed.tail);
-      says = subst (λ (l : List ℕ). Says l n) (let same : says.first ≡ e.1 = cc in same) says.says;
+      says = subst (λ (l : List ℕ). HasNumber l n) (let same : says.first ≡ e.1 = cc in same) says.says;
     }
 
 -- ---- the live slot is one
 
 -- of two slots that are beside one another and both begin, each cannot be the older one
-both_live : (image : Image) (n m : ℕ) → slot m ≡ slot (n + 1) → slot n ≡ slot (m + 1) → Begins (image (slot n)) n → Begins (image (slot m)) m
+both_live : (image : Image) (n m : ℕ) → slot m ≡ slot (n + 1) → slot n ≡ slot (m + 1) → HasFirstEntry (image (slot n)) n → HasFirstEntry (image (slot m)) m
     → IsOlder (slot (n + 1)) (image (slot (n + 1))) n → IsOlder (slot (m + 1)) (image (slot (m + 1))) m → ⊥
 both_live image n m m_is n_is a b (inl none) second_older = begins_some _ m b (subst (λ (name : List ℕ). HoldsNone (image name)) (sym m_is) none)
 both_live image n m m_is n_is a b (inr older) (inl none) = begins_some _ n a (subst (λ (name : List ℕ). HoldsNone (image name)) (sym n_is) none)
 both_live image n m m_is n_is a b (inr older) (inr other) =
-    let first : older.0 ≡ m = begins_one _ older.0 m older.3 (subst (λ (name : List ℕ). Begins (image name) m) m_is b) in
-    let last : other.0 ≡ n = begins_one _ other.0 n other.3 (subst (λ (name : List ℕ). Begins (image name) n) n_is a) in
+    let first : older.0 ≡ m = begins_one _ older.0 m older.3 (subst (λ (name : List ℕ). HasFirstEntry (image name) m) m_is b) in
+    let last : other.0 ≡ n = begins_one _ other.0 n other.3 (subst (λ (name : List ℕ). HasFirstEntry (image name) n) n_is a) in
     absurd (omega (arith, older.1, other.1, first, last))
 
 -- a slot that is live and one that holds none
-live_none : (image : Image) (n : ℕ) → slots_none image → Begins (image (slot n)) n → ⊥
+live_none : (image : Image) (n : ℕ) → slots_none image → HasFirstEntry (image (slot n)) n → ⊥
 live_none image n none a = elim (beside n) [
   | inl e ↦ begins_some _ n a (subst (λ (name : List ℕ). HoldsNone (image name)) (sym e.0) none.0)
   | inr e ↦ begins_some _ n a (subst (λ (name : List ℕ). HoldsNone (image name)) (sym e.0) none.1)
 ]
 
-pub live_begins : (image : Image) (n end : ℕ) (payloads : List (List ℕ)) → IsLive image n end payloads → Begins (image (slot n)) n
+pub live_begins : (image : Image) (n end : ℕ) (payloads : List (List ℕ)) → IsLive image n end payloads → HasFirstEntry (image (slot n)) n
 live_begins image n end payloads live = first_begins _ n end payloads live.closed live.says
 
 pub slots_one : (image : Image) (p q : List (List ℕ)) → slots_entries image p → slots_entries image q → p ≡ q
@@ -188,7 +189,7 @@ bad_older name file n bad (inr older) = bad.none older.0 older.2 older.3
 pub slots_not_damaged : (image : Image) (at : ℕ) (payloads : List (List ℕ)) → slots_damaged image at → slots_entries image payloads → ⊥
 slots_not_damaged image at payloads (inl bad) (inl none) = bad_none image bad.1.0 none.0 bad.1.1
 slots_not_damaged image at payloads (inl bad) (inr live) = elim (same_or_beside live.0 bad.1.0) [
-  | inl same ↦ bad.1.1.none live.0 (sym same) (subst (λ (name : List ℕ). Begins (image name) live.0) (sym same)
+  | inl same ↦ bad.1.1.none live.0 (sym same) (subst (λ (name : List ℕ). HasFirstEntry (image name) live.0) (sym same)
       (live_begins image live.0 live.1 payloads live.2))
   | inr apart ↦ bad_older _ _ live.0 (subst (λ (name : List ℕ). IsBadSlot name (image name)) apart.0 bad.1.1) live.2.older
 ]

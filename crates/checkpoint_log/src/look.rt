@@ -2,7 +2,7 @@
 ghost use Rattle.std.specs.Prelude.{◌≡◌, ◌≢◌, ◌<◌, ◌≤◌, ◌∷◌, [], ℕ, List, slice_index, length, IsTrue, IsErrOf, OnOk, Ok};
 ghost use Rattle.std.specs.Int.{w64, from_be_bytes};
 ghost use Rattle.nuc_base.specs.Faults.{HasCause, Rose};
-ghost use Rattle.disk_model.specs.Disk.{Image, Leaves};
+ghost use Rattle.disk_model.specs.Disk.{Image, HasLeft};
 ghost use Rattle.checkpoint_log.specs.Beginnings.{second, slot};
 ghost use Rattle.gate_log.specs.Entries.{journal};
 ghost use Rattle.gate_log.specs.Journal.{AreSettled};
@@ -53,7 +53,7 @@ pub fn look<D: Disk>(disk: &mut D, odd: u64) -> Result<Option<u64>, FindFault>
     requires parity { odd < 2 }
     ensures told { IsTrue D.is_modelled → IsLook (slot odd) (D.seen disk.old (slot odd)) result }
     ensures seen { D.seen disk.new ≡ D.seen disk.old }
-    ensures moments { Leaves D.moment D.left_since disk.old disk.new (D.may_leave disk.old) }
+    ensures moments { HasLeft D.moment D.left_since disk.old disk.new (D.may_leave disk.old) }
     ensures cause { IsErrOf result FindFault.Disk → Rose (D.faults disk.old) (D.faults disk.new) }
     ensures quiet { ¬ (IsErrOf result FindFault.Disk) → D.faults disk.new ≡ D.faults disk.old }
     ensures later { D.faults disk.old ≤ D.faults disk.new }
@@ -75,7 +75,7 @@ pub fn look<D: Disk>(disk: &mut D, odd: u64) -> Result<Option<u64>, FindFault>
 pub fn settle<D: Disk>(disk: &mut D) -> Result<(), DiskFault>
     ensures settled { OnOk result (AreSettled D.seen D.may_leave slots_files disk.new) }
     ensures seen { D.seen disk.new ≡ D.seen disk.old }
-    ensures moments { Leaves D.moment D.left_since disk.old disk.new (D.may_leave disk.old) }
+    ensures moments { HasLeft D.moment D.left_since disk.old disk.new (D.may_leave disk.old) }
     ensures cause { HasCause (D.faults disk.old) (D.faults disk.new) result }
     ensures quiet { OnOk result (D.faults disk.new ≡ D.faults disk.old) }
 {
@@ -85,7 +85,7 @@ pub fn settle<D: Disk>(disk: &mut D) -> Result<(), DiskFault>
 
 /// The greater of the slots' numbers.
 fn greater(first: Option<u64>, other: Option<u64>) -> Result<u64, FindFault>
-    ensures told { (image : Image) → IsLook journal (image journal) (Ok first) → IsLook second (image second) (Ok other) → IsNumber image result }
+    ensures answers { (image : Image) → IsLook journal (image journal) (Ok first) → IsLook second (image second) (Ok other) → IsNumber image result }
     ensures no_fault { ¬ (IsErrOf result FindFault.Disk) }
 {
     match first {
@@ -105,7 +105,7 @@ fn greater(first: Option<u64>, other: Option<u64>) -> Result<u64, FindFault>
 pub fn live_number<D: Disk>(disk: &mut D) -> Result<u64, FindFault>
     ensures told { IsTrue D.is_modelled → IsNumber (D.seen disk.old) result }
     ensures seen { D.seen disk.new ≡ D.seen disk.old }
-    ensures moments { Leaves D.moment D.left_since disk.old disk.new (D.may_leave disk.old) }
+    ensures moments { HasLeft D.moment D.left_since disk.old disk.new (D.may_leave disk.old) }
     ensures cause { IsErrOf result FindFault.Disk → Rose (D.faults disk.old) (D.faults disk.new) }
     ensures quiet { ¬ (IsErrOf result FindFault.Disk) → D.faults disk.new ≡ D.faults disk.old }
     ensures later { D.faults disk.old ≤ D.faults disk.new }

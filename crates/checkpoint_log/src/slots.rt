@@ -1,7 +1,7 @@
 // Two slots as a journal.
 use crate::look::{live_number, settle};
 use crate::names::slot_name;
-use crate::turn::{close_behind, put_behind, shut_front};
+use crate::turn::{close_behind, put_behind, shut_start};
 use disk_model::{Disk, DiskFault};
 use gate_log::{AppendFault, EntryFault, FindFault, JOURNAL, Journal, Log, open_gate};
 use nuc_base::Bytes;
@@ -96,7 +96,7 @@ impl Journal for Slots {
         if self.number >= u64::MAX {
             return Ok(());
         }
-        shut_front(disk, slot_name(self.number + 1))?;
+        shut_start(disk, slot_name(self.number + 1))?;
         self.put_end = 0;
         self.begun = true;
         Ok(())

@@ -1,19 +1,19 @@
 // What a turn writes in the slot that is not live.
 ghost use Rattle.std.specs.Prelude.{◌≡◌, ◌≢◌, ◌<◌, ◌≤◌, ◌+◌, ◌++◌, ◌∷◌, [], ℕ, List, IsTrue, length, OnOk};
 ghost use Rattle.nuc_base.specs.Faults.{HasCause};
-ghost use Rattle.disk_model.specs.Disk.{Settled, Leaves, After, Step};
+ghost use Rattle.disk_model.specs.Disk.{Settled, HasLeft, IsAfter, Step};
 ghost use Rattle.gate_log.specs.Entries.{most_file, most_payload};
 ghost use Rattle.checkpoint_log.specs.Slots.{IsPutWith};
-ghost use Rattle.checkpoint_log.specs.Turns.{IsShutOn, KeepsFront};
+ghost use Rattle.checkpoint_log.specs.Turns.{IsShutOn, KeepsStart};
 
 use disk_model::{Disk, DiskFault};
 
 /// Writes a first byte 0 where there is another or none. What a torn write there can open was open before: the file is
 /// stable first.
-pub fn shut_front<D: Disk>(disk: &mut D, file: &str) -> Result<(), DiskFault>
+pub fn shut_start<D: Disk>(disk: &mut D, file: &str) -> Result<(), DiskFault>
     ensures shut { IsTrue D.is_modelled → OnOk result ((more : List ℕ) × (D.seen disk.new file.now ≡ 0 ∷ more)) }
     ensures durable { OnOk result (Settled (D.may_leave disk.new) file.now (D.seen disk.new file.now)) }
-    ensures moments { Leaves D.moment D.left_since disk.old disk.new (After (D.may_leave disk.old) (Step file.now IsShutOn)) }
+    ensures moments { HasLeft D.moment D.left_since disk.old disk.new (IsAfter (D.may_leave disk.old) (Step file.now IsShutOn)) }
     ensures others { IsTrue D.is_modelled → (name : List ℕ) → name ≢ file.now → D.seen disk.new name ≡ D.seen disk.old name }
     ensures cause { HasCause (D.faults disk.old) (D.faults disk.new) result }
     ensures quiet { OnOk result (D.faults disk.new ≡ D.faults disk.old) }
@@ -28,12 +28,12 @@ pub fn shut_front<D: Disk>(disk: &mut D, file: &str) -> Result<(), DiskFault>
     disk.sync(file)
 }
 
-/// Opens the gate behind the entries that were put. The one at the front stays closed.
+/// Opens the gate behind the entries that were put. The one at the beginning stays closed.
 fn gate_behind<D: Disk>(disk: &mut D, file: &str, end: u64) -> Result<(), DiskFault>
     requires there { IsTrue D.is_modelled → (payloads : List (List ℕ)) × IsPutWith [] (D.seen disk.old file.now) end payloads }
     ensures written { IsTrue D.is_modelled → (payloads : List (List ℕ)) → IsPutWith [] (D.seen disk.old file.now) end payloads →
         OnOk result (IsPutWith (1 ∷ []) (D.seen disk.new file.now) end payloads) }
-    ensures moments { Leaves D.moment D.left_since disk.old disk.new (After (D.may_leave disk.old) (Step file.now KeepsFront)) }
+    ensures moments { HasLeft D.moment D.left_since disk.old disk.new (IsAfter (D.may_leave disk.old) (Step file.now KeepsStart)) }
     ensures others { IsTrue D.is_modelled → (name : List ℕ) → name ≢ file.now → D.seen disk.new name ≡ D.seen disk.old name }
     ensures cause { HasCause (D.faults disk.old) (D.faults disk.new) result }
     ensures quiet { OnOk result (D.faults disk.new ≡ D.faults disk.old) }
@@ -44,7 +44,7 @@ fn gate_behind<D: Disk>(disk: &mut D, file: &str, end: u64) -> Result<(), DiskFa
     disk.write_at(file, end, &[1])
 }
 
-/// Puts an entry behind those that were put, the first of them behind the closed gate at the front.
+/// Puts an entry behind those that were put, the first of them behind the closed gate at the beginning.
 pub fn put_behind<D: Disk>(
     disk: &mut D,
     file: &str,
@@ -57,7 +57,7 @@ pub fn put_behind<D: Disk>(
     requires room { end + 6 + length payload.now ≤ most_file }
     ensures written { IsTrue D.is_modelled → (payloads : List (List ℕ)) → IsPutWith [] (D.seen disk.old file.now) end payloads →
         OnOk result (IsPutWith [] (D.seen disk.new file.now) (end + 5 + length payload.now) (payloads ++ payload.now ∷ [])) }
-    ensures moments { Leaves D.moment D.left_since disk.old disk.new (After (D.may_leave disk.old) (Step file.now KeepsFront)) }
+    ensures moments { HasLeft D.moment D.left_since disk.old disk.new (IsAfter (D.may_leave disk.old) (Step file.now KeepsStart)) }
     ensures others { IsTrue D.is_modelled → (name : List ℕ) → name ≢ file.now → D.seen disk.new name ≡ D.seen disk.old name }
     ensures cause { HasCause (D.faults disk.old) (D.faults disk.new) result }
     ensures quiet { OnOk result (D.faults disk.new ≡ D.faults disk.old) }
@@ -75,7 +75,7 @@ pub fn close_behind<D: Disk>(disk: &mut D, file: &str, end: u64) -> Result<(), D
     ensures written { IsTrue D.is_modelled → (payloads : List (List ℕ)) → IsPutWith [] (D.seen disk.old file.now) end payloads →
         OnOk result (IsPutWith (0 ∷ []) (D.seen disk.new file.now) end payloads) }
     ensures durable { OnOk result (Settled (D.may_leave disk.new) file.now (D.seen disk.new file.now)) }
-    ensures moments { Leaves D.moment D.left_since disk.old disk.new (After (D.may_leave disk.old) (Step file.now KeepsFront)) }
+    ensures moments { HasLeft D.moment D.left_since disk.old disk.new (IsAfter (D.may_leave disk.old) (Step file.now KeepsStart)) }
     ensures others { IsTrue D.is_modelled → (name : List ℕ) → name ≢ file.now → D.seen disk.new name ≡ D.seen disk.old name }
     ensures cause { HasCause (D.faults disk.old) (D.faults disk.new) result }
     ensures quiet { OnOk result (D.faults disk.new ≡ D.faults disk.old) }

@@ -3,9 +3,9 @@ use Rattle.std.proofs.Common.{◌≡◌, ◌<◌, ◌≤◌, ◌+◌, ℕ, suc, 
 use Rattle.std.specs.Prelude.{◌&&◌, ◌||◌, if◌then◌else◌}
 use Rattle.std.specs.Str.{bytes_eq}
 use Rattle.components.specs.Components.{ComponentState, component_name}
-use Rattle.components.specs.Marks.{Flagged, grown, reaching, is_flagged, needs_flagged, Within, IsClosedBack}
+use Rattle.components.specs.Marks.{Flagged, grown, reaching, is_flagged, needs_flagged, AreFlagsWithin, IsClosedBack}
 
-pub within_refl : (fs : Flagged) → Within fs fs
+pub within_refl : (fs : Flagged) → AreFlagsWithin fs fs
 within_refl [] = tt
 within_refl (f ∷ fs) = (refl, (λ e. e), within_refl fs)
 
@@ -25,7 +25,7 @@ and_true : (a b : Bool) → (a && b) ≡ true → (a ≡ true) × (b ≡ true)
 and_true true b e = (refl, e)
 and_true false b e = absurd (cc)
 
-pub flagged_more : (n : List ℕ) (fs hs : Flagged) → Within fs hs → is_flagged n fs ≡ true → is_flagged n hs ≡ true
+pub flagged_more : (n : List ℕ) (fs hs : Flagged) → AreFlagsWithin fs hs → is_flagged n fs ≡ true → is_flagged n hs ≡ true
 flagged_more n [] [] w e = e
 flagged_more n [] (h ∷ hs) w e = absurd w
 flagged_more n (f ∷ fs) [] w e = absurd w
@@ -35,14 +35,14 @@ flagged_more n (f ∷ fs) (h ∷ hs) w e = elim (or_true (f.1 && (bytes_eq (comp
   | inr a ↦ or_right (h.1 && (bytes_eq (component_name h.0) n)) (is_flagged n hs) (flagged_more n fs hs w.2 a)
 ]
 
-pub needs_more : (ns : List (List ℕ)) (fs hs : Flagged) → Within fs hs → needs_flagged ns fs ≡ true → needs_flagged ns hs ≡ true
+pub needs_more : (ns : List (List ℕ)) (fs hs : Flagged) → AreFlagsWithin fs hs → needs_flagged ns fs ≡ true → needs_flagged ns hs ≡ true
 needs_more [] fs hs w e = e
 needs_more (n ∷ ns) fs hs w e = elim (or_true (is_flagged n fs) (needs_flagged ns fs) e) [
   | inl a ↦ or_left (is_flagged n hs) (needs_flagged ns hs) (flagged_more n fs hs w a)
   | inr a ↦ or_right (is_flagged n hs) (needs_flagged ns hs) (needs_more ns fs hs w a)
 ]
 
-grown_within : (all bs fs hs : Flagged) → Within all bs → Within fs hs → Within (grown all fs) (grown bs hs)
+grown_within : (all bs fs hs : Flagged) → AreFlagsWithin all bs → AreFlagsWithin fs hs → AreFlagsWithin (grown all fs) (grown bs hs)
 grown_within all bs [] [] w v = tt
 grown_within all bs [] (h ∷ hs) w v = absurd v
 grown_within all bs (f ∷ fs) [] w v = absurd v
@@ -57,15 +57,15 @@ grown_within all bs (f ∷ fs) (h ∷ hs) w v = (
 )
 
 -- the marks are in each closed set that has the first ones
-pub least : (n : ℕ) (fs hs : Flagged) → Within fs hs → IsClosedBack hs → Within (reaching n fs) hs
+pub least : (n : ℕ) (fs hs : Flagged) → AreFlagsWithin fs hs → IsClosedBack hs → AreFlagsWithin (reaching n fs) hs
 least zero fs hs w c = w
-least (suc n) fs hs w c = least n (grown fs fs) hs (subst (λ (gs : Flagged). Within (grown fs fs) gs) c (grown_within fs hs fs hs w w)) c
+least (suc n) fs hs w c = least n (grown fs fs) hs (subst (λ (gs : Flagged). AreFlagsWithin (grown fs fs) gs) c (grown_within fs hs fs hs w w)) c
 
-grown_more : (all fs : Flagged) → Within fs (grown all fs)
+grown_more : (all fs : Flagged) → AreFlagsWithin fs (grown all fs)
 grown_more all [] = tt
 grown_more all (f ∷ fs) = (refl, (λ e. or_left f.1 (needs_flagged f.0.fitted.hard all) e), grown_more all fs)
 
-pub trans : (fs gs hs : Flagged) → Within fs gs → Within gs hs → Within fs hs
+pub trans : (fs gs hs : Flagged) → AreFlagsWithin fs gs → AreFlagsWithin gs hs → AreFlagsWithin fs hs
 trans [] [] [] v w = tt
 trans [] [] (h ∷ hs) v w = absurd w
 trans [] (g ∷ gs) hs v w = absurd v
@@ -74,7 +74,7 @@ trans (f ∷ fs) (g ∷ gs) [] v w = absurd w
 trans (f ∷ fs) (g ∷ gs) (h ∷ hs) v w = (v.0 ∙ w.0, (λ e. w.1 (v.1 e)), trans fs gs hs v.2 w.2)
 
 -- they have the first ones
-pub most : (n : ℕ) (fs : Flagged) → Within fs (reaching n fs)
+pub most : (n : ℕ) (fs : Flagged) → AreFlagsWithin fs (reaching n fs)
 most zero fs = within_refl fs
 most (suc n) fs = trans fs (grown fs fs) (reaching n (grown fs fs)) (grown_more fs fs) (most n (grown fs fs))
 

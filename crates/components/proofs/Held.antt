@@ -6,7 +6,7 @@ use Rattle.std.specs.Str.{bytes_eq}
 use Rattle.lifecycle.specs.declared.kinds.After.{After}
 use Rattle.lifecycle.specs.declared.kinds.After.TheVariants as after
 use Rattle.components.specs.Components.{ComponentState, is_to_stop}
-use Rattle.components.specs.Marks.{Flagged, Within, flagged}
+use Rattle.components.specs.Marks.{Flagged, AreFlagsWithin, flagged}
 use Rattle.components.specs.Turns.{coming_needs, dependents, direct_dependents, hard_needs, is_held, is_held_far, is_held_for, with_hard_needs}
 use Rattle.components.proofs.Closes.{most}
 use Rattle.components.proofs.Meets.{none_left, none_right}
@@ -20,7 +20,7 @@ none_and true true c d f e h = e ∙ h
 none_and true false c d f e h = let g : false ≡ true = f refl in absurd (cc)
 none_and false b c d f e h = refl
 
-pub within_none : (t : ComponentState → Bool) (fs hs : Flagged) → Within fs hs → any_flagged t hs ≡ false → any_flagged t fs ≡ false
+pub within_none : (t : ComponentState → Bool) (fs hs : Flagged) → AreFlagsWithin fs hs → any_flagged t hs ≡ false → any_flagged t fs ≡ false
 within_none t [] [] w e = refl
 within_none t [] (h ∷ hs) w e = absurd w
 within_none t (f ∷ fs) [] w e = absurd w
@@ -29,10 +29,10 @@ within_none t (f ∷ fs) (h ∷ hs) w e =
     let p = none_right (h.1 && t h.0) (any_flagged t hs) e in
     rw (none_and f.1 h.1 (t f.0) (t h.0) w.1 (ap t w.0) o) (within_none t fs hs w.2 p)
 
-any_front : (f : List ℕ → Bool) (xs ys : List (List ℕ)) → list_any f (xs ++ ys) ≡ false → list_any f xs ≡ false
-any_front f [] ys e = refl
-any_front f (x ∷ xs) ys e =
-    rw (none_left (f x) (list_any f (xs ++ ys)) e) (any_front f xs ys (none_right (f x) (list_any f (xs ++ ys)) e))
+any_prefix : (f : List ℕ → Bool) (xs ys : List (List ℕ)) → list_any f (xs ++ ys) ≡ false → list_any f xs ≡ false
+any_prefix f [] ys e = refl
+any_prefix f (x ∷ xs) ys e =
+    rw (none_left (f x) (list_any f (xs ++ ys)) e) (any_prefix f xs ys (none_right (f x) (list_any f (xs ++ ys)) e))
 
 abbrev needs : List ℕ → ComponentState → Bool
 needs name q = list_any (bytes_eq name) q.fitted.hard
@@ -50,7 +50,7 @@ direct_none name (p ∷ ps) e =
     let rest : Bool = any_flagged is_to_stop (flagged (needs name) (map with_hard_needs ps)) in
     let o = none_left (list_any (bytes_eq name) (hard_needs p) && is_to_stop p) rest e in
     rw (none_swapped (list_any (bytes_eq name) (hard_needs p)) (is_to_stop p) (list_any (bytes_eq name) p.fitted.hard) o
-    (any_front (bytes_eq name) p.fitted.hard (coming_needs p)))
+    (any_prefix (bytes_eq name) p.fitted.hard (coming_needs p)))
     (direct_none name ps (none_right (list_any (bytes_eq name) (hard_needs p) && is_to_stop p) rest e))
 
 pub near_none : (name : List ℕ) (ps : List ComponentState) → is_held_far name ps ≡ false → is_held name ps ≡ false

@@ -7,7 +7,7 @@ use Rattle.nuc_base.specs.declared.kinds.Exit.{Exit}
 use Rattle.nuc_base.specs.declared.kinds.Exit.TheVariants as exits
 use Rattle.lifecycle.specs.declared.kinds.LifeEvent.{LifeEvent}
 use Rattle.lifecycle.specs.declared.kinds.LifeEvent.TheVariants as life
-use Rattle.components.specs.Answers.{Answers}
+use Rattle.components.specs.Answers.{IsExpected}
 use Rattle.components.specs.Deadlines.{deadline_after}
 use Rattle.components.specs.Events.{with_child, launched, answered_at, noticed, later, gone_by, is_orphan_at}
 use Rattle.components.specs.Fitted.{Fitted, name_of, prepared_of, limit_of}
@@ -91,7 +91,7 @@ kept_launched step.Shutdown k w h = h
 kept_launched step.Recover k w h = h
 kept_launched step.Bootstrap k w h = h
 
-pub event_kept : (w : Components) (e : Event) (m : ℕ) → IsKept w → w.moment ≤ m → m < 2 ^ 62 → Answers w e → StartsShort e w.parts →
+pub event_kept : (w : Components) (e : Event) (m : ℕ) → IsKept w → w.moment ≤ m → m < 2 ^ 62 → IsExpected w e → StartsShort e w.parts →
     IsKept (noticed e (later m w))
 event_kept w (Started k s n) m h l t a short =
     let v : Components = later m w in

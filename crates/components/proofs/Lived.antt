@@ -14,7 +14,7 @@ use Rattle.lifecycle.specs.declared.kinds.LifeAct.TheVariants as act
 use Rattle.components.specs.Fitted.{Fitted, steps_of}
 use Rattle.components.specs.Components.{ComponentState, is_again, is_spared}
 use Rattle.components.specs.Lives.{lived, after_row, with_failures_forgotten, with_failure_owed, with_stop_given, with_new_item, completed, replaced}
-use Rattle.components.specs.Rows.{succeeds_from, owed_after, stop_after, is_spared_by, completed_from, Takes}
+use Rattle.components.specs.Rows.{succeeds_from, owed_after, stop_after, is_spared_by, completed_from, ItemAfterStop}
 use Rattle.components.specs.Runs.{is_own, IsKeptPart}
 
 pub and_not : (a b : Bool) → (a && not b) ≡ true → b ≡ false
@@ -159,7 +159,7 @@ module _ (steady : Bool) (e : LifeEvent) (p : ComponentState) (a : LifeAct) (d l
 
   module _ (owed2 : Option (Step × Exit)) (stop2 : Option After) (f2 : Fitted) (c2 : Life) (n2 : Option (Fitted × ℕ)) (kept : IsKeptPart p)
       (owes : owed2 ≡ owed_after a (is_spared_by p.stop l) p.owed)
-      (stops : stop2 ≡ stop_after e p.stop) (takes : Takes again p.fitted f2 l c2 p.next n2) where
+      (stops : stop2 ≡ stop_after e p.stop) (takes : ItemAfterStop again p.fitted f2 l c2 p.next n2) where
     abbrev mid : ComponentState
     mid = record p { life = l; owed = owed2; stop = stop2 }
 

@@ -13,7 +13,7 @@ use Rattle.lifecycle.specs.Table.{table}
 use Rattle.lifecycle.specs.declared.kinds.After.TheVariants as after
 use Rattle.lifecycle.specs.declared.kinds.LifeAct.{LifeAct}
 use Rattle.lifecycle.specs.declared.kinds.LifeEvent.{LifeEvent}
-use Rattle.device.specs.Plans.{Rise}
+use Rattle.device.specs.Plans.{AreRising}
 use Rattle.components.specs.Fitted.{Fitted, name_of, steps_of}
 use Rattle.components.specs.Components.{Components, ComponentState, changed_at, component_name, is_again}
 use Rattle.components.specs.Marks.{Flagged, grown, reaching, flagged, flagged_at, marked, restarted, may_restart}
@@ -57,7 +57,7 @@ none_equal : (n : List ℕ) (ns : List (List ℕ)) → AllByRecursion (λ m. sli
 none_equal n [] h = refl
 none_equal n (m ∷ ms) h = ap (λ (b : Bool). b || list_any (bytes_eq n) ms) (less_differ n m h.0) ∙ none_equal n ms h.1
 
-pub rise_apart : (ns : List (List ℕ)) → Rise ns → AreNamesApart ns
+pub rise_apart : (ns : List (List ℕ)) → AreRising ns → AreNamesApart ns
 rise_apart [] h = tt
 rise_apart (n ∷ ns) h = (none_equal n ns (sorted_head (slice_cmp nat_cmp) n ns h), rise_apart ns (sorted_tail (slice_cmp nat_cmp) n ns h))
 

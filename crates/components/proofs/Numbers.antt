@@ -224,12 +224,12 @@ has_number n (d ∷ ds) c e = has_at (d.number == n) e (has_number n ds c) where
   has_at true q i = refl
   has_at false q i = i q
 
-among_front : (n : ℕ) (xs ys : List ℕ) → among n xs ≡ true → among n (xs ++ ys) ≡ true
-among_front n [] ys e = absurd (cc)
-among_front n (x ∷ xs) ys e = front_at (x == n) e (among_front n xs ys) where
-  front_at : (b : Bool) → (b || among n xs) ≡ true → (among n xs ≡ true → among n (xs ++ ys) ≡ true) → (b || among n (xs ++ ys)) ≡ true
-  front_at true q i = refl
-  front_at false q i = i q
+among_prefix : (n : ℕ) (xs ys : List ℕ) → among n xs ≡ true → among n (xs ++ ys) ≡ true
+among_prefix n [] ys e = absurd (cc)
+among_prefix n (x ∷ xs) ys e = prefix_at (x == n) e (among_prefix n xs ys) where
+  prefix_at : (b : Bool) → (b || among n xs) ≡ true → (among n xs ≡ true → among n (xs ++ ys) ≡ true) → (b || among n (xs ++ ys)) ≡ true
+  prefix_at true q i = refl
+  prefix_at false q i = i q
 
 among_back : (n : ℕ) (xs ys : List ℕ) → among n ys ≡ true → among n (xs ++ ys) ≡ true
 among_back n [] ys e = e
@@ -239,7 +239,7 @@ owner_stands_at : (k n : ℕ) (p : ComponentState) (ps : List ComponentState) (o
     (IsSome (owner_from (k + 1) n ps) → among n (living_numbers ps) ≡ true)
     → among n (child_numbers p.children ++ living_numbers ps) ≡ true
 owner_stands_at k n p ps None q e i = among_back n (child_numbers p.children) (living_numbers ps) (i e)
-owner_stands_at k n p ps (Some c) q e i = among_front n (child_numbers p.children) (living_numbers ps) (has_number n p.children c q)
+owner_stands_at k n p ps (Some c) q e i = among_prefix n (child_numbers p.children) (living_numbers ps) (has_number n p.children c q)
 
 pub owner_stands : (k n : ℕ) (ps : List ComponentState) → IsSome (owner_from k n ps) → among n (living_numbers ps) ≡ true
 owner_stands k n [] e = absurd (cc)

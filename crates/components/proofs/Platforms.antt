@@ -11,7 +11,7 @@ use Rattle.nuc_base.specs.declared.kinds.Step.TheVariants as step
 use Rattle.nuc_base.specs.declared.kinds.Exit.{Exit}
 use Rattle.nuc_base.specs.declared.kinds.Exit.TheVariants as exits
 use Rattle.nuc_base.specs.declared.platform.Platform.{Platform}
-use Rattle.recipe_reader.specs.OneRecipe.{Reads, AreAlike, IsOneRecipe}
+use Rattle.recipe_reader.specs.OneRecipe.{IsRecipeFor, AreAlike, IsOneRecipe}
 use Rattle.recipe_reader.specs.Steps.{step_of}
 use Rattle.recipe_reader.specs.declared.recipe.Recipe.{Recipe}
 use Rattle.recipe_reader.specs.declared.recipe.StepDef.{StepDef}
@@ -25,11 +25,11 @@ use Rattle.lifecycle.specs.declared.kinds.LifeEvent.TheVariants as event
 use Rattle.lifecycle.specs.declared.kinds.StepSet.{StepSet}
 use Rattle.records.specs.Stored.{Item}
 use Rattle.records.specs.declared.record.Origin.{Origin}
-use Rattle.components.specs.Acts.{NextAct, HandsOut, Quietly, Move}
+use Rattle.components.specs.Acts.{NextAct, HandsOut, MovesInOrder, Move}
 use Rattle.components.specs.Changes.{Coming, all_stopped, changed_to, coming_again, coming_for, counted, fate, forgetting, fresh_part, is_replaced}
 use Rattle.components.specs.Changes.{is_replacing, leaving, meeting, replacing, replanned, standing, staying, steadied, with_items, with_newcomers}
 use Rattle.components.specs.Changes.{with_texts}
-use Rattle.components.specs.Events.{answered_at, gone_by, is_orphan_at, kill_event_at, launched, noticed, told_at, with_child}
+use Rattle.components.specs.Events.{answered_at, gone_by, is_orphan_at, kill_event_at, launched, noticed, heard_at, with_child}
 use Rattle.components.specs.Fitted.{Fitted, is_same_config, is_same_item, prepared_of, steps_of}
 use Rattle.components.specs.Lives.{drops_at, lived, lived_at, replaced}
 use Rattle.components.specs.Made.{AreFitted, IsFittedAt, IsPrepared, hard_names}
@@ -82,7 +82,7 @@ fitted_for origin items at f h =
     λ s e. has_prepared h.scope (step_of r s) (prepared_of f s) (h.steps s (other s e)) in
     record {
       recipe = r;
-      reads = subst (λ (i : Item). Reads i.recipe origin.platform r) (sym h.item) h.is_scope.reads;
+      reads = subst (λ (i : Item). IsRecipeFor i.recipe origin.platform r) (sym h.item) h.is_scope.reads;
       steps = same_set (is_some f.install) (is_some f.run) (is_some f.startup) (is_some f.shutdown) (is_some f.recover) (is_some r.install) (is_some r.run)
           (is_some r.startup) (is_some r.shutdown) (is_some r.recover)
           (has step.Install refl) (has step.Run refl) (has step.Startup refl) (has step.Shutdown refl) (has step.Recover refl);
@@ -117,7 +117,7 @@ steps_for : (one : IsOneRecipe) (platform : Platform) (f g : Fitted) → IsFor p
     steps_of f ≡ steps_of g
 steps_for one platform f g h i e =
     h.steps ∙ same_steps h.recipe i.recipe (one g.item.recipe platform h.recipe i.recipe
-    (subst (λ (bs : List ℕ). Reads bs platform h.recipe) (same_recipe f.item g.item e) h.reads) i.reads) ∙ sym i.steps
+    (subst (λ (bs : List ℕ). IsRecipeFor bs platform h.recipe) (same_recipe f.item g.item e) h.reads) i.reads) ∙ sym i.steps
 
 all_has : {A : Type 0} (P : A → Type 0) (xs : List A) (x : A) → AllByRecursion P xs → Contains xs x → P x
 all_has P [] x h i = absurd (in_nil x i)
@@ -132,7 +132,7 @@ needs_for : (one : IsOneRecipe) (platform : Platform) (f g : Fitted) → IsFor p
     f.hard ≡ g.hard
 needs_for one platform f g h i e =
     let a : AreAlike h.recipe i.recipe = one g.item.recipe platform h.recipe i.recipe
-    (subst (λ (bs : List ℕ). Reads bs platform h.recipe) (same_recipe f.item g.item e) h.reads) i.reads in
+    (subst (λ (bs : List ℕ). IsRecipeFor bs platform h.recipe) (same_recipe f.item g.item e) h.reads) i.reads in
     h.hard ∙ ap hard_names a.dependencies ∙ sym i.hard
 
 pub keep_needs : (one : IsOneRecipe) (platform : Platform) (fs : List Fitted) (ps : List ComponentState) → AllFor platform fs → AllRunFor platform ps →
@@ -256,11 +256,11 @@ module _ (platform : Platform) where
   run_noticed (Ended n x) w a = run_ended (owner n w.parts) n x w a
   run_noticed Passed w a = a
 
-  run_quietly : (ms : List Move) (w v : Components) → Quietly w ms v → AllRunFor platform w.parts → AllRunFor platform v.parts
+  run_quietly : (ms : List Move) (w v : Components) → MovesInOrder w ms v → AllRunFor platform w.parts → AllRunFor platform v.parts
   run_quietly [] w v q a = subst (λ (u : Components). AllRunFor platform u.parts) (sym q) a
   run_quietly (m ∷ ms) w v q a = run_quietly ms (lived_at m.who m.what w) v q.2 (run_lived_at m.who m.what w a)
 
-  run_told : (k : ℕ) (w : Components) → AllRunFor platform w.parts → AllRunFor platform (told_at k w).parts
+  run_told : (k : ℕ) (w : Components) → AllRunFor platform w.parts → AllRunFor platform (heard_at k w).parts
   run_told k w a = run_changed (λ p. record p { owed = None }) (λ p h. h) k w.parts a
 
   run_hands : (w : Components) (act : Option Act) (v : Components) → HandsOut w act v → AllRunFor platform w.parts → AllRunFor platform v.parts

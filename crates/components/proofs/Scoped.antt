@@ -4,7 +4,7 @@ use Rattle.std.proofs.lemmas.List.{length-map}
 use Rattle.std.proofs.lemmas.Option.{slice_get-map, slice_get_within, slice_get-get_or, get_or_from_slice_get}
 use Rattle.nuc_base.specs.declared.kinds.Step.{Step}
 use Rattle.nuc_base.specs.declared.kinds.Step.TheVariants.{Install, Run, Startup, Shutdown, Recover, Bootstrap}
-use Rattle.recipe_reader.specs.OneRecipe.{Reads, AreAlike, IsOneRecipe}
+use Rattle.recipe_reader.specs.OneRecipe.{IsRecipeFor, AreAlike, IsOneRecipe}
 use Rattle.recipe_reader.specs.Steps.{step_of}
 use Rattle.recipe_reader.specs.declared.recipe.Recipe.{Recipe}
 use Rattle.recipe_reader.specs.declared.recipe.StepDef.{StepDef}
@@ -35,13 +35,13 @@ same_item items at x i there seen =
 pub recipe_there : (origin : Origin) (items : List code.Item) (at : ℕ) (x : code.Item) → slice_get items at ≡ Some x → HasScope origin
     (map item_view items) at → HasSomeRecipe origin.platform x.recipe
 recipe_there origin items at x there h =
-    (h.recipe, subst (λ (i : Item). Reads i.recipe origin.platform h.recipe) (same_item items at x h.item there h.there) h.reads)
+    (h.recipe, subst (λ (i : Item). IsRecipeFor i.recipe origin.platform h.recipe) (same_item items at x h.item there h.there) h.reads)
 
 module _ (one : IsOneRecipe) (origin : Origin) (items : List code.Item) (at : ℕ) (x : code.Item) (there : slice_get items at ≡ Some x) (recipe : Recipe)
-    (reads : Reads x.recipe origin.platform recipe)
+    (reads : IsRecipeFor x.recipe origin.platform recipe)
     (scope : Scope) (s : IsScopeOf origin (map item_view items) at scope) where
   alike : AreAlike s.recipe recipe
-  alike = one x.recipe origin.platform s.recipe recipe (subst (λ (i : Item). Reads i.recipe origin.platform s.recipe)
+  alike = one x.recipe origin.platform s.recipe recipe (subst (λ (i : Item). IsRecipeFor i.recipe origin.platform s.recipe)
       (same_item items at x s.item there s.there) s.reads) reads
 
   of_scope : (step : Step) (made : Option Prepared) → IsPrepared scope (step_of recipe step) made → IsPrepared scope (step_of s.recipe step) made

@@ -10,7 +10,7 @@ use Rattle.components.specs.Fitted.{prepared_of}
 use Rattle.components.specs.Components.{Components, ComponentState, At, component_name, owner, place_of, is_orphan, is_broken}
 use Rattle.components.specs.Turns.{may_begin, may_retry, may_stop, is_begun, IsNext, IsQuiet}
 use Rattle.components.specs.Lives.{lived_at}
-use Rattle.components.specs.Events.{is_late_child, handed_at, killed, told_at}
+use Rattle.components.specs.Events.{is_late_child, handed_at, killed, heard_at}
 use Rattle.components.specs.declared.kinds.Act.{Act}
 use Rattle.components.specs.declared.kinds.Act.TheVariants.{Start, Kill, Failed, Broke}
 
@@ -36,9 +36,9 @@ pub record Move : Type 0 where
   pub what : LifeEvent
 
 -- components move one after another, each in its turn
-abbrev pub Quietly : Components → List Move → Components → Type 0
-Quietly w [] v = v ≡ w
-Quietly w (m ∷ ms) v = IsNext w m.who × MayMove w m.who m.what × Quietly (lived_at m.who m.what w) ms v
+abbrev pub MovesInOrder : Components → List Move → Components → Type 0
+MovesInOrder w [] v = v ≡ w
+MovesInOrder w (m ∷ ms) v = IsNext w m.who × MayMove w m.who m.what × MovesInOrder (lived_at m.who m.what w) ms v
 
 -- ---- what is done outside
 
@@ -68,12 +68,12 @@ abbrev pub HandsOut : Components → Option Act → Components → Type 0
 HandsOut w None v = IsQuiet w × (v ≡ w)
 HandsOut w (Some (Start k t)) v = IsNext w k × At k (HasStart t) w.parts × (v ≡ handed_at k w)
 HandsOut w (Some (Kill n)) v = (k : ℕ) × (t : Step) × IsNext w k × MayKill w n k t × (v ≡ killed n w)
-HandsOut w (Some (Failed k t e)) v = OwesAt w k t e false × (v ≡ told_at k w)
-HandsOut w (Some (Broke k t e)) v = OwesAt w k t e true × (v ≡ told_at k w)
+HandsOut w (Some (Failed k t e)) v = OwesAt w k t e false × (v ≡ heard_at k w)
+HandsOut w (Some (Broke k t e)) v = OwesAt w k t e true × (v ≡ heard_at k w)
 
 -- so it is after moves that leave nothing outside
 pub record NextAct (w : Components) (act : Option Act) (v : Components) : Type 0 where
   pub made : List Move
   pub seen : Components
-  pub quietly : Quietly w made seen
+  pub quietly : MovesInOrder w made seen
   pub hands : HandsOut seen act v

@@ -20,12 +20,12 @@ abbrev pub HasHanded : ℕ → Step → Components → Type 0
 HasHanded k t w = At k (λ p. (p.handed ≡ true) × (is_begun t p ≡ true)) w.parts
 
 -- the event answers a start that was handed out, or a child ended that lives
-abbrev pub Answers : Components → Event → Type 0
-Answers w (Started k t n) = HasHanded k t w × (owner n w.parts ≡ None)
-Answers w (Refused k t) = HasHanded k t w
-Answers w (Skipped k t) = HasHanded k t w
-Answers w (Ended n e) = IsSome (owner n w.parts)
-Answers w Passed = Unit {0}
+abbrev pub IsExpected : Components → Event → Type 0
+IsExpected w (Started k t n) = HasHanded k t w × (owner n w.parts ≡ None)
+IsExpected w (Refused k t) = HasHanded k t w
+IsExpected w (Skipped k t) = HasHanded k t w
+IsExpected w (Ended n e) = IsSome (owner n w.parts)
+IsExpected w Passed = Unit {0}
 
 -- every start that was handed out is answered
 abbrev pub has_answered : Components → Bool

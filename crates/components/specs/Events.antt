@@ -68,11 +68,11 @@ abbrev pub killed : ℕ → Components → Components
 killed n w = elim (owner n w.parts) [ None ↦ w | Some o ↦ gone_by (kill_event_at o.0 o.1 n w) o.0 o.1 n w ]
 
 -- the failure of the component of this name was handed out
-abbrev pub told_at : ℕ → Components → Components
-told_at k w = record w { parts = changed_at k (λ p. record p { owed = None }) w.parts }
+abbrev pub heard_at : ℕ → Components → Components
+heard_at k w = record w { parts = changed_at k (λ p. record p { owed = None }) w.parts }
 
-abbrev pub told_of : List ℕ → Components → Components
-told_of name w = elim (place_of name w.parts) [ None ↦ w | Some k ↦ told_at k w ]
+abbrev pub heard_of : List ℕ → Components → Components
+heard_of name w = elim (place_of name w.parts) [ None ↦ w | Some k ↦ heard_at k w ]
 
 abbrev pub noticed : Event → Components → Components
 noticed (Started k s n) w = started k s n w

@@ -1,7 +1,7 @@
 -- Components beside their flags.
 use Rattle.std.specs.Prelude.{◌≡◌, ◌<◌, ℕ, ◌+◌, Bool, true, false, not, ◌&&◌, List, [], ◌∷◌, length, get_or, if◌then◌else◌}
 use Rattle.components.specs.Components.{ComponentState, Components}
-use Rattle.components.specs.Marks.{Flagged, needs_flagged, Within, IsClosedBack, may_restart, may_replan}
+use Rattle.components.specs.Marks.{Flagged, needs_flagged, AreFlagsWithin, IsClosedBack, may_restart, may_replan}
 
 abbrev pub with_flags : List ComponentState → List Bool → Flagged
 with_flags [] bs = []
@@ -25,19 +25,19 @@ abbrev pub joins : List ComponentState → List Bool → ℕ → ComponentState 
 joins ps bs at p = not (get_or bs at false) && needs_flagged p.fitted.hard (with_flags ps bs)
 
 -- whatever is closed and has the first flags has the later ones
-abbrev pub Under : List ComponentState → List Bool → List Bool → Type 0
-Under ps old new = (hs : Flagged) → Within (with_flags ps old) hs → IsClosedBack hs → Within (with_flags ps new) hs
+abbrev pub IsInClosure : List ComponentState → List Bool → List Bool → Type 0
+IsInClosure ps old new = (hs : Flagged) → AreFlagsWithin (with_flags ps old) hs → IsClosedBack hs → AreFlagsWithin (with_flags ps new) hs
 
 -- some more have a flag, all of which reach one that had one
-pub record Grows (ps : List ComponentState) (old new : List Bool) : Type 0 where
+pub record HasSpread (ps : List ComponentState) (old new : List Bool) : Type 0 where
   pub many : length new ≡ length old
-  pub more : Within (with_flags ps old) (with_flags ps new)
-  pub under : Under ps old new
+  pub more : AreFlagsWithin (with_flags ps old) (with_flags ps new)
+  pub under : IsInClosure ps old new
 
 -- one pass: none joins any more, or fewer have no flag
-pub record Spreads (ps : List ComponentState) (old new : List Bool) (grew : Bool) : Type 0 where
+pub record SpreadOutcome (ps : List ComponentState) (old new : List Bool) (grew : Bool) : Type 0 where
   pub many : length new ≡ length old
-  pub more : Within (with_flags ps old) (with_flags ps new)
-  pub under : Under ps old new
+  pub more : AreFlagsWithin (with_flags ps old) (with_flags ps new)
+  pub under : IsInClosure ps old new
   pub closed : grew ≡ false → IsClosedBack (with_flags ps new)
   pub fewer : grew ≡ true → free new < free old

@@ -47,23 +47,23 @@ restarted may fs = marked may (reaching (length fs) fs)
 -- ---- laws: who is reached are the least that are closed and have the first ones
 
 -- the same components, and each flag of the first ones
-abbrev pub Within : Flagged → Flagged → Type 0
-Within [] [] = ⊤
-Within [] (h ∷ hs) = ⊥
-Within (f ∷ fs) [] = ⊥
-Within (f ∷ fs) (h ∷ hs) = (f.0 ≡ h.0) × (f.1 ≡ true → h.1 ≡ true) × Within fs hs
+abbrev pub AreFlagsWithin : Flagged → Flagged → Type 0
+AreFlagsWithin [] [] = ⊤
+AreFlagsWithin [] (h ∷ hs) = ⊥
+AreFlagsWithin (f ∷ fs) [] = ⊥
+AreFlagsWithin (f ∷ fs) (h ∷ hs) = (f.0 ≡ h.0) × (f.1 ≡ true → h.1 ≡ true) × AreFlagsWithin fs hs
 
 abbrev pub IsClosedBack : Flagged → Type 0
 IsClosedBack fs = grown fs fs ≡ fs
 
 abbrev pub HasFirst : Type 0
-HasFirst = (fs : Flagged) → Within fs (reaching (length fs) fs)
+HasFirst = (fs : Flagged) → AreFlagsWithin fs (reaching (length fs) fs)
 
 abbrev pub IsClosedWhole : Type 0
 IsClosedWhole = (fs : Flagged) → IsClosedBack (reaching (length fs) fs)
 
 abbrev pub IsLeast : Type 0
-IsLeast = (fs hs : Flagged) → Within fs hs → IsClosedBack hs → Within (reaching (length fs) fs) hs
+IsLeast = (fs hs : Flagged) → AreFlagsWithin fs hs → IsClosedBack hs → AreFlagsWithin (reaching (length fs) fs) hs
 
 -- ---- who may be stopped so
 

@@ -2,7 +2,7 @@
 use Rattle.std.specs.Prelude.{◌≡◌, IfSome, List, is_some}
 use Rattle.std.specs.List.{AllByRecursion}
 use Rattle.nuc_base.specs.declared.platform.Platform.{Platform}
-use Rattle.recipe_reader.specs.OneRecipe.{Reads}
+use Rattle.recipe_reader.specs.OneRecipe.{IsRecipeFor}
 use Rattle.recipe_reader.specs.declared.recipe.Recipe.{Recipe}
 use Rattle.lifecycle.specs.declared.kinds.StepSet.{StepSet}
 use Rattle.components.specs.Fitted.{Fitted, steps_of}
@@ -23,7 +23,7 @@ steps_in r = record {
 -- it has the steps and the hard needs that its recipe has for the platform
 pub record IsFor (platform : Platform) (f : Fitted) : Type 0 where
   pub recipe : Recipe
-  pub reads : Reads f.item.recipe platform recipe
+  pub reads : IsRecipeFor f.item.recipe platform recipe
   pub steps : steps_of f ≡ steps_in recipe
   pub hard : f.hard ≡ hard_names recipe.dependencies
 

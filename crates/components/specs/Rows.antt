@@ -61,6 +61,6 @@ next_of f None = None
 next_of f (Some n) = Some (taken_item f n.0, n.1)
 
 -- one that was stopped with Again takes the item that replaces its own
-pub record Takes (again : Bool) (f f2 : Fitted) (c c2 : Life) (n n2 : Option (Fitted × ℕ)) : Type 0 where
+pub record ItemAfterStop (again : Bool) (f f2 : Fitted) (c c2 : Life) (n n2 : Option (Fitted × ℕ)) : Type 0 where
   pub taken : again ≡ true → MatchOption n ((f2 ≡ f) × (c2 ≡ c)) (λ x. (f2 ≡ x.0) × (c2 ≡ begun (steps_of x.0) x.1)) × (n2 ≡ None)
   pub kept : again ≡ false → (f2 ≡ f) × (c2 ≡ c) × (n2 ≡ n)

@@ -92,10 +92,10 @@ owes p = is_some p.owed
 
 -- it is this one's turn: no failure is owed, and none of a lesser name may act
 pub record IsNext (w : Components) (k : ℕ) : Type 0 where
-  pub told : list_any owes w.parts ≡ false
+  pub owes_none : list_any owes w.parts ≡ false
   pub least : list_any (may_act w) (take k w.parts) ≡ false
 
 -- no failure is owed, and none may act
 pub record IsQuiet (w : Components) : Type 0 where
-  pub told : list_any owes w.parts ≡ false
+  pub owes_none : list_any owes w.parts ≡ false
   pub none : list_any (may_act w) w.parts ≡ false

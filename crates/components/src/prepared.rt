@@ -1,7 +1,7 @@
 //! Steps with their variables expanded.
 ghost use Rattle.std.specs.Prelude.{◌≡◌, Some, option_map, map, IfOk};
 ghost use Rattle.std.specs.List.{AllZip};
-ghost use Rattle.recipe_reader.specs.OneRecipe.{Reads};
+ghost use Rattle.recipe_reader.specs.OneRecipe.{IsRecipeFor};
 ghost use Rattle.interpolation.specs.Scopes.{HasRegularConfigs};
 ghost use Rattle.records.specs.Stored.{item_view};
 ghost use Rattle.device.specs.Plans.{AreRegularItems, HasSomeRecipe};
@@ -20,7 +20,7 @@ use step_runner::Command;
 /// What the bytes say for the platform. They are a recipe.
 pub fn known_recipe(alloc: Global, platform: &Platform, bytes: &[u8]) -> Result<Recipe, NoMemory>
     requires { HasSomeRecipe platform.now bytes.now }
-    ensures { IfOk result (Reads bytes.now platform.now) }
+    ensures { IfOk result (IsRecipeFor bytes.now platform.now) }
 {
     recipe_laws();
     match Recipe::read(alloc, bytes, platform) {

@@ -19,7 +19,7 @@ use Rattle.config_ops.specs.declared.update.Update.{Update}
 use Rattle.records.specs.declared.record.Requirement.{Requirement}
 use Rattle.deployment_doc.specs.Sound.{AreSound, MergesObject, UpdatesByObject, root_name}
 use Rattle.deployment_doc.specs.declared.document.Root.{Root}
-use Rattle.device.specs.Plans.{AreRequirements, Rise, requirement_name}
+use Rattle.device.specs.Plans.{AreRequirements, AreRising, requirement_name}
 use Rattle.config_cmd.specs.Documents.{root_for}
 
 -- ---- names that rise are not found twice
@@ -39,7 +39,7 @@ module _ (n : List ℕ) where
           let other : bytes_eq x r ≡ false = sym (is_eq-slice_cmp x r) ∙ ap is_eq less in
           absurd (let both : true ≡ false = sym equal ∙ other in cc)
 
-  pub not_before : (rs : List Requirement) (i : ℕ) (r : Requirement) → Rise (map requirement_name rs) → i < length rs → r ≡ get_or rs i r
+  pub not_before : (rs : List Requirement) (i : ℕ) (r : Requirement) → AreRising (map requirement_name rs) → i < length rs → r ≡ get_or rs i r
       → bytes_eq n r.name ≡ true → list_any named (take i rs) ≡ false
   not_before [] i r rise below at same = absurd (omega arith)
   not_before (x ∷ rs) zero r rise below at same = refl
@@ -62,7 +62,7 @@ module _ (n : List ℕ) where
   or_right true b is = absurd cc
 
   module _ (u : Update) (rs : List Requirement) where
-    pub gives : (i : ℕ) (r : Requirement) (left : Option Update) → Rise (map requirement_name rs) → i < length rs → r ≡ get_or rs i r
+    pub gives : (i : ℕ) (r : Requirement) (left : Option Update) → AreRising (map requirement_name rs) → i < length rs → r ≡ get_or rs i r
         → (list_any named (take i rs) ≡ false → left ≡ Some u) → (b : Bool) → b ≡ bytes_eq n r.name
         → (if b then left else None) ≡ (if bytes_eq n r.name then Some u else None)
     gives i r left rise below at held true is =
@@ -114,6 +114,6 @@ all_merge n u (r ∷ rs) h = All-cons UpdatesByObject (root_for n u r) (map (roo
 pub roots_sound : (n : List ℕ) (u : Update) (rs : List Requirement) → AreRequirements rs → MergesObject u → AreSound (map (root_for n u) rs)
 roots_sound n u rs are h = record {
   few = let long = length-map rs (root_for n u) in omega (arith, long, are.few);
-  rising = subst Rise (sym (names_same n u rs)) are.rise;
+  rising = subst AreRising (sym (names_same n u rs)) are.rise;
   merges = all_merge n u rs h;
 }

@@ -2,7 +2,7 @@
 ghost use Rattle.std.specs.Prelude.{◌≡◌, Some, IfOk};
 ghost use Rattle.serde_json.specs.Data.{string};
 ghost use Rattle.serde_json.specs.Find.{get};
-ghost use Rattle.nuc_base.specs.Tables.{Answers};
+ghost use Rattle.nuc_base.specs.Tables.{AnswerBy};
 ghost use Rattle.tree_core.specs.View.{view};
 ghost use Rattle.tree_core.specs.Regular.{IsRegular};
 ghost use Rattle.deployment_doc.specs.Lines.{at_required, label_lines};
@@ -45,7 +45,7 @@ impl Change {
 
 fn change_of(alloc: Global, tree: &Tree, name: &Name) -> Result<Change, DocFault>
     requires { IsRegular (view tree.now) }
-    ensures { Answers OutOfMemory (change_lines name.now (view tree.now)) (IsChange (view tree.now)) result }
+    ensures { AnswerBy OutOfMemory (change_lines name.now (view tree.now)) (IsChange (view tree.now)) result }
 {
     let Tree::Fields(_) = tree else {
         return Err(DocFault::WrongKind(Key::Document));
@@ -56,7 +56,7 @@ fn change_of(alloc: Global, tree: &Tree, name: &Name) -> Result<Change, DocFault
 }
 
 fn id_of(alloc: Global, tree: &Tree) -> Result<Label, DocFault>
-    ensures { Answers OutOfMemory
+    ensures { AnswerBy OutOfMemory
         (at_required key.DeploymentId (view tree.now) (label_lines key.DeploymentId))
         (λ id. get (spelled key.DeploymentId) (view tree.now) ≡ Some (string id))
         result }
@@ -68,7 +68,7 @@ fn id_of(alloc: Global, tree: &Tree) -> Result<Label, DocFault>
 }
 
 fn label_of(alloc: Global, tree: &Tree) -> Result<Label, DocFault>
-    ensures { Answers OutOfMemory (label_lines key.DeploymentId (view tree.now)) (λ l. view tree.now ≡ string l) result }
+    ensures { AnswerBy OutOfMemory (label_lines key.DeploymentId (view tree.now)) (λ l. view tree.now ≡ string l) result }
 {
     let Tree::Text(text) = tree else {
         return Err(DocFault::WrongKind(Key::DeploymentId));

@@ -1,9 +1,9 @@
 //! The document of a change.
 ghost use Rattle.std.specs.Prelude.{◌≡◌, ◌<◌, length, map, option_map, slice_index_or, IfOk, None, if◌then◌else◌};
-ghost use Rattle.nuc_base.specs.Tables.{Answers};
+ghost use Rattle.nuc_base.specs.Tables.{AnswerBy};
 ghost use Rattle.deployment_doc.specs.Sound.{AreSound, MergesObject};
 ghost use Rattle.device.specs.Devices.{device_view};
-ghost use Rattle.device.specs.Plans.{requirement_name, Rise};
+ghost use Rattle.device.specs.Plans.{requirement_name, AreRising};
 ghost use Rattle.device.specs.Sound.{IsSound};
 ghost use Rattle.config_cmd.specs.declared.fault.SetFault.TheVariants.{NoMemory as OutOfMemory};
 ghost use Rattle.config_cmd.specs.Documents.{set_lines, requires_name as requires_by, group_for as group_by, root_for, IsChangeDocument};
@@ -28,7 +28,7 @@ pub fn config_document(
 ) -> Result<Document, SetFault>
     requires sound { IsSound (device_view device.now) }
     requires object { MergesObject change.update }
-    ensures exact { Answers OutOfMemory (set_lines (device_view device.now) name.now) (IsChangeDocument (device_view device.now) name.now change) result }
+    ensures exact { AnswerBy OutOfMemory (set_lines (device_view device.now) name.now) (IsChangeDocument (device_view device.now) name.now change) result }
     ensures sound { IfOk result (λ document. AreSound document.roots) }
 {
     if item_named(device.set.as_slice(), name).is_none() {
@@ -110,7 +110,7 @@ fn roots_for(
     name: &Name,
     update: Update,
 ) -> Result<List<Root>, NoMemory>
-    requires { Rise (map requirement_name requirements.now) }
+    requires { AreRising (map requirement_name requirements.now) }
     ensures { IfOk result (λ roots. roots ≡ map (root_for name.now update) requirements.now) }
 {
     let mut left = Some(update);

@@ -1,6 +1,6 @@
 //! A node of a component's configuration.
 ghost use Rattle.std.specs.Prelude.{◌≡◌, map, option_map};
-ghost use Rattle.nuc_base.specs.Tables.{Answers};
+ghost use Rattle.nuc_base.specs.Tables.{AnswerBy};
 ghost use Rattle.records.specs.Stored.{item_view};
 ghost use Rattle.device.specs.Devices.{device_view, IsRegularDevice};
 ghost use Rattle.device.specs.Lawful.{item_named as item_by};
@@ -34,7 +34,7 @@ pub fn config_get(
     at: &Pointer,
 ) -> Result<Text, GetFault>
     requires { IsRegularDevice (device_view device.now) }
-    ensures { Answers OutOfMemory
+    ensures { AnswerBy OutOfMemory
         (get_lines (device_view device.now) name.now at.now)
         (IsNodeText (device_view device.now) name.now at.now)
         result }

@@ -1,4 +1,4 @@
--- A join of two objects, from the front.
+-- A join of two objects, from the beginning.
 use Rattle.std.proofs.Common.{◌≡◌, ℕ, List, [], ◌∷◌, ◌++◌, Option, Some, None, Ordering, Less, Equal, Greater, nat_cmp, refl, sym, ap, ap₂, ◌∙◌, subst}
 use Rattle.std.proofs.Common.{option_map, unwrap_or}
 use Rattle.std.specs.Prelude.{IfSome, IfNone}
@@ -41,7 +41,7 @@ pub behind-behind : (ms ns os : Members) → behind (behind ms ns) os ≡ behind
 behind-behind no_members ns os = refl
 behind-behind (member k d ms) ns os = ap (member k d) (behind-behind ms ns os)
 
--- a key before all of the second object's stays in front
+-- a key before all of the second object's stays first
 got_later : (k l : List ℕ) (d : Data) (ts : Members) → slice_cmp nat_cmp l k ≡ Greater → get_member l (member k d ts) ≡ get_member l ts
 got_later k l d ts is = rw is refl
 
@@ -110,10 +110,10 @@ lower Less e g = refl
 lower Equal e g = absurd (e refl)
 lower Greater e g = absurd (g refl)
 
-put_in_front : (k : List ℕ) (d : Data) (fs : List Field) → (ranks k fs ≡ Some Equal → ⊥) → (ranks k fs ≡ Some Greater → ⊥) →
+put_first : (k : List ℕ) (d : Data) (fs : List Field) → (ranks k fs ≡ Some Equal → ⊥) → (ranks k fs ≡ Some Greater → ⊥) →
     put k d (fields_view fs) ≡ member k d (fields_view fs)
-put_in_front k d [] e g = refl
-put_in_front k d (f ∷ fs) e g = rw (lower (slice_cmp nat_cmp k f.0) e g) refl
+put_first k d [] e g = refl
+put_first k d (f ∷ fs) e g = rw (lower (slice_cmp nat_cmp k f.0) e g) refl
 
 pub none_there : (k : List ℕ) (fs : List Field) → MembersAreOrderly (fields_view fs) → (ranks k fs ≡ Some Equal → ⊥) → (ranks k fs ≡ Some Greater → ⊥) →
     get_member k (fields_view fs) ≡ None
@@ -128,7 +128,7 @@ pub put_all-absent : (p : Option Data → Data → Data) (k : List ℕ) (u : Dat
     → put_all p (fields_view fs) (member k u us) ≡ member k (p None u) (put_all p (fields_view fs) us)
 put_all-absent p k u us fs h o e g =
     ap (λ old. put_all p (put k (p old u) (fields_view fs)) us) (none_there k fs o e g)
-    ∙ ap (λ ms. put_all p ms us) (put_in_front k (p None u) fs e g)
+    ∙ ap (λ ms. put_all p ms us) (put_first k (p None u) fs e g)
     ∙ put_all-first p k (p None u) (fields_view fs) us h
 
 -- ---- one key of the second object

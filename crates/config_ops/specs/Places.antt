@@ -10,7 +10,7 @@ abbrev pub ranks : List ℕ → List (List ℕ × Tree) → Option Ordering
 ranks k [] = None
 ranks k (f ∷ fs) = Some (slice_cmp nat_cmp k f.0)
 
--- the fields in front whose keys come before the key
+-- the fields at the beginning whose keys come before the key
 abbrev pub fields_before : List ℕ → List (List ℕ × Tree) → List (List ℕ × Tree)
 fields_before k [] = []
 fields_before k (f ∷ fs) = match_ordering (slice_cmp nat_cmp k f.0) [] [] (f ∷ fields_before k fs)

@@ -51,25 +51,25 @@ is_less_from Less e = refl
 is_less_from Equal e = cc
 is_less_from Greater e = cc
 
-turned_less : (o : Ordering) → ordering_reverse o ≡ Less → o ≡ Greater
-turned_less Less e = cc
-turned_less Equal e = cc
-turned_less Greater e = refl
+reversed_less : (o : Ordering) → ordering_reverse o ≡ Less → o ≡ Greater
+reversed_less Less e = cc
+reversed_less Equal e = cc
+reversed_less Greater e = refl
 
-turned_greater : (o : Ordering) → o ≡ Greater → ordering_reverse o ≡ Less
-turned_greater Less e = cc
-turned_greater Equal e = cc
-turned_greater Greater e = refl
+reversed_greater : (o : Ordering) → o ≡ Greater → ordering_reverse o ≡ Less
+reversed_greater Less e = cc
+reversed_greater Equal e = cc
+reversed_greater Greater e = refl
 
 pub up_to_test : (n m : List ℕ) → IsUpTo n m → is_up_to n m ≡ true
 up_to_test n m h =
     let total = nat_list_cmp_total in
-    not_greater (slice_cmp nat_cmp n m) (λ e. h (total.antisymm m n ∙ turned_greater (slice_cmp nat_cmp n m) e))
+    not_greater (slice_cmp nat_cmp n m) (λ e. h (total.antisymm m n ∙ reversed_greater (slice_cmp nat_cmp n m) e))
 
 pub up_to_tested : (n m : List ℕ) → is_up_to n m ≡ true → IsUpTo n m
 up_to_tested n m t = λ e.
     let total = nat_list_cmp_total in
-    up_to_true (slice_cmp nat_cmp n m) t (turned_less (slice_cmp nat_cmp n m) (sym (total.antisymm m n) ∙ e))
+    up_to_true (slice_cmp nat_cmp n m) t (reversed_less (slice_cmp nat_cmp n m) (sym (total.antisymm m n) ∙ e))
 
 -- what is not up to a name comes after it
 pub after_tested : (n m : List ℕ) → is_up_to n m ≡ false → n ≡ m → ⊥

@@ -5,20 +5,20 @@ use Rattle.std.specs.List.{All, Contains}
 use Rattle.std.proofs.lemmas.Option.{same_Some, none-some}
 use Rattle.std.proofs.lemmas.List.{take_more, take_all}
 use Rattle.std.proofs.lemmas.List.Elements.{Contains-append_left, Contains-push, Contains-push_cases, All-contains}
-use Rattle.nuc_base.specs.Leads.{Leads, direct, through}
+use Rattle.nuc_base.specs.Leads.{HasPath, direct, through}
 use Rattle.nuc_base.proofs.Lists.{in_nil, in_cons, in_here, in_there, all_from_in}
 use Rattle.nuc_base.proofs.Leading.{leads_more}
 use Rattle.dep_order.specs.declared.Need.{Need as Edge}
 use Rattle.dep_order.specs.declared.Edges.{Edges}
 use Rattle.dep_order.specs.Orders as orders
 use Rattle.recipe_reader.specs.Members.{Need, Member}
-use Rattle.recipe_reader.specs.Sets.{name_of, needs_of, Needs}
+use Rattle.recipe_reader.specs.Sets.{name_of, needs_of, HasDependency}
 use Rattle.recipe_reader.specs.Searches.{IsConsistent}
 use Rattle.conflict_search.specs.Conflicts.{IsNogood, IsConflict}
 use Rattle.conflict_search.specs.Numbers.{IsNumber}
 use Rattle.conflict_search.specs.Claims.{Claim, claims_of, demand_need, claim, AreDemands}
 use Rattle.conflict_search.specs.Boards.{IsChosen, IsBoard}
-use Rattle.conflict_search.specs.Edges.{Joins, Asks, AreEdgesOf}
+use Rattle.conflict_search.specs.Edges.{HasEdge, HasDemand, AreEdgesOf}
 use Rattle.conflict_search.specs.declared.demands.Demand.{Demand}
 use Rattle.conflict_search.specs.declared.board.Board.{Board}
 use Rattle.conflict_search.proofs.Claiming.{IsClaimOf, need_claim, from_claims, demand_for, claim_for, number_for}
@@ -38,7 +38,7 @@ module _ (asked : List Demand) (chosen : List (Option ℕ)) (i : ℕ) (d : Deman
   cases : (e : Demand) → Contains (take (i + 1) asked) e → Contains (take i asked) e ⊎ (get_or asked i d ≡ e)
   cases e j = Contains-push_cases (take i asked) (get_or asked i d) e (subst (λ l. Contains l e) (take_more asked i d lt) j)
 
-  asks_before : (a b : ℕ) → Asks (take i asked) chosen a b → Asks (take (i + 1) asked) chosen a b
+  asks_before : (a b : ℕ) → HasDemand (take i asked) chosen a b → HasDemand (take (i + 1) asked) chosen a b
   asks_before a b h = record { by = h.by; is = before h.by h.is; from = h.from; to = h.to }
 
   -- the demand gives an edge
@@ -87,7 +87,7 @@ module _ (asked : List Demand) (chosen : List (Option ℕ)) (i : ℕ) (d : Deman
 
 module _ (ms : List Member) (wanted : List Need) (board : Board) (edges : Edges) (h : IsBoard ms wanted board) (are : AreEdgesOf board.asked.items
     board.chosen.items edges.needs) where
-  need_edge : (a b : ℕ) → Needs ms board.places.items a b → orders.Needs edges a b
+  need_edge : (a b : ℕ) → HasDependency ms board.places.items a b → orders.HasNeed edges a b
   need_edge a b n =
       let r = demand_for ms (claims_of ms wanted board.places.items) board.asked.items (record {
         from = Some a;
@@ -100,7 +100,7 @@ module _ (ms : List Member) (wanted : List Need) (board : Board) (edges : Edges)
       let j = are.has a b (record { by = r.0; is = r.1; from = ap (λ (c : Claim). c.from) r.2; to = chosen.has b r.0.number n.by.name n.to n.named is }) in
       record { by = j.by; is = j.is; from = j.from; to = j.to }
 
-  edge_need : (a b : ℕ) → orders.Needs edges a b → Needs ms board.places.items a b
+  edge_need : (a b : ℕ) → orders.HasNeed edges a b → HasDependency ms board.places.items a b
   edge_need a b e =
       let r = are.only a b (record { by = e.by; is = e.is; from = e.from; to = e.to }) in
       let chosen = h.chosen in
@@ -129,12 +129,12 @@ module _ (ms : List Member) (wanted : List Need) (board : Board) (edges : Edges)
         subst (λ m. x.to < m) (sym e) (All-contains (λ p. p < length ms) board.places.items x.to h.inside n.to),
       )))
 
-  pub edges_acyclic : orders.IsAcyclic edges → (p : ℕ) → Leads (Needs ms board.places.items) p p → ⊥
+  pub edges_acyclic : orders.IsAcyclic edges → (p : ℕ) → HasPath (HasDependency ms board.places.items) p p → ⊥
   edges_acyclic free p r = free p (leads_more need_edge r)
 
   -- linked places lead on, wherever they all are
   linked : (s : List ℕ) (p : ℕ) (ps : List ℕ) (last : ℕ) → orders.AreLinked edges (p ∷ ps) last → ((x : ℕ) → Contains (p ∷ ps) x → Contains s x) →
-      Contains s last → Leads (Needs ms s) p last
+      Contains s last → HasPath (HasDependency ms s) p last
   linked s p [] last l within end = (let n = edge_need p last l.0 in
       direct (record { from = within p (in_here p []); to = end; by = n.by; is = n.is; named = n.named }))
   linked s p (q ∷ qs) last l within end = (let n = edge_need p q l.0 in

@@ -5,13 +5,13 @@ use Rattle.std.specs.List.{Contains}
 use Rattle.std.proofs.lemmas.Bool.{cases_eq, eqb-true, eq-eqb}
 use Rattle.std.proofs.lemmas.Option.{same_Some, none-some}
 use Rattle.std.proofs.lemmas.List.Elements.{Contains-append_left, Contains-push, Contains-push_cases}
-use Rattle.nuc_base.specs.Leads.{Leads, direct}
+use Rattle.nuc_base.specs.Leads.{HasPath, direct}
 use Rattle.nuc_base.proofs.Lists.{in_nil}
 use Rattle.dep_order.proofs.Filtered.{in_filter, filter_has}
-use Rattle.npm_ranges.specs.Ranges.{Meets}
+use Rattle.npm_ranges.specs.Ranges.{IsInRange}
 use Rattle.recipe_reader.specs.Members.{Need, Member}
-use Rattle.recipe_reader.specs.Sets.{name_of, version_of, needs_of, IsMetBy, Needs}
-use Rattle.recipe_reader.specs.Searches.{IsConsistent, Suits}
+use Rattle.recipe_reader.specs.Sets.{name_of, version_of, needs_of, IsMetBy, HasDependency}
+use Rattle.recipe_reader.specs.Searches.{IsConsistent, IsSuited}
 use Rattle.recipe_reader.proofs.Required.{required_by_need}
 use Rattle.recipe_reader.proofs.ValidSets.{complete_from}
 use Rattle.conflict_search.specs.Conflicts.{IsNogood, IsConflict, IsConflictWith, AreInRange, IsInRangeWith}
@@ -33,20 +33,20 @@ module _ (ms : List Member) (wanted : List Need) where
 
   pub in_range_push : (taken : List ℕ) (p : ℕ) → AreInRange ms wanted taken → IsInRangeWith ms wanted taken p → AreInRange ms wanted (taken ++ p ∷ [])
   in_range_push taken p h with' = record {
-    wanted_hold = λ x i. elim (Contains-push_cases taken p x i) [ inl a ↦ h.wanted_hold x a | inr e ↦ subst (Suits ms wanted) e with'.wanted_hold ];
+    wanted_hold = λ x i. elim (Contains-push_cases taken p x i) [ inl a ↦ h.wanted_hold x a | inr e ↦ subst (IsSuited ms wanted) e with'.wanted_hold ];
     needs_hold = λ x y i j ne. elim (Contains-push_cases taken p x i) [
       | inl a ↦ elim (Contains-push_cases taken p y j) [
         | inl b ↦ h.needs_hold x y a b ne
-        | inr f ↦ subst (Suits ms (needs_of ms x)) f (with'.asked_hold x a)
+        | inr f ↦ subst (IsSuited ms (needs_of ms x)) f (with'.asked_hold x a)
       ]
       | inr e ↦ elim (Contains-push_cases taken p y j) [
-        | inl b ↦ subst (λ z. Suits ms (needs_of ms z) y) e (with'.needs_hold y b)
+        | inl b ↦ subst (λ z. IsSuited ms (needs_of ms z) y) e (with'.needs_hold y b)
         | inr f ↦ absurd (ne (sym e ∙ f))
       ]
     ];
   }
 
-  pub consistent_from : (taken : List ℕ) → AreInRange ms wanted taken → ((p : ℕ) → Leads (Needs ms taken) p p → ⊥) → IsConsistent ms wanted taken
+  pub consistent_from : (taken : List ℕ) → AreInRange ms wanted taken → ((p : ℕ) → HasPath (HasDependency ms taken) p p → ⊥) → IsConsistent ms wanted taken
   consistent_from taken h acyclic = record {
     wanted_hold = λ w j p i e. h.wanted_hold p i w j e;
     needs_hold = λ p i d k q j e. elim (cases_eq p q) [
@@ -73,12 +73,13 @@ module _ (ms : List Member) (wanted : List Need) where
 
 -- ---- versions and ranges
 
-met_by : (ms : List Member) (name range version : List ℕ) (p : ℕ) → name_of ms p ≡ Some name → version_of ms p ≡ Some version → Meets version range →
+met_by : (ms : List Member) (name range version : List ℕ) (p : ℕ) → name_of ms p ≡ Some name → version_of ms p ≡ Some version → IsInRange version range →
     IsMetBy ms name range p
-met_by ms name range version p n v m = record { named = n; meets = subst (λ o. IfSome o (λ v. Meets v range)) (sym v) m }
+met_by ms name range version p n v m = record { named = n; meets = subst (λ o. IfSome o (λ v. IsInRange v range)) (sym v) m }
 
-not_met : (ms : List Member) (name range version : List ℕ) (p : ℕ) → version_of ms p ≡ Some version → (Meets version range → ⊥) → IsMetBy ms name range p → ⊥
-not_met ms name range version p v bad h = bad (subst (λ o. IfSome o (λ v. Meets v range)) v h.meets)
+not_met : (ms : List Member) (name range version : List ℕ) (p : ℕ) → version_of ms p ≡ Some version → (IsInRange version range → ⊥)
+    → IsMetBy ms name range p → ⊥
+not_met ms name range version p v bad h = bad (subst (λ o. IfSome o (λ v. IsInRange v range)) v h.meets)
 
 -- ---- what is asked of the name
 
@@ -94,20 +95,21 @@ module _ (ms : List Member) (wanted : List Need) (taken : List ℕ) (asked : Lis
       r.1)) at.is in
       (r.0, filter_has (λ (d : Demand). eqb d.number number) asked r.0 r.1 (eq-eqb r.0.number number same), r.2)
 
-  claim_met : ((d : Demand) → Contains (row number asked) d → Meets version d.range.now) → (c : Claim) → Contains (claims_of ms wanted taken) c →
+  claim_met : ((d : Demand) → Contains (row number asked) d → IsInRange version d.range.now) → (c : Claim) → Contains (claims_of ms wanted taken) c →
       name_of ms place ≡ Some c.need.name → IsMetBy ms c.need.name c.need.range place
   claim_met all c i e =
       let r = row_for c i e in
-      met_by ms c.need.name c.need.range version place e v (subst (λ (x : Claim). Meets version x.need.range) r.2 (all r.0 r.1))
+      met_by ms c.need.name c.need.range version place e v (subst (λ (x : Claim). IsInRange version x.need.range) r.2 (all r.0 r.1))
 
-  pub wanted_met : ((d : Demand) → Contains (row number asked) d → Meets version d.range.now) → Suits ms wanted place
+  pub wanted_met : ((d : Demand) → Contains (row number asked) d → IsInRange version d.range.now) → IsSuited ms wanted place
   wanted_met all = λ w i e. claim_met all (record { from = None; need = w }) (wanted_claim ms wanted taken w i) e
 
-  pub asked_met : ((d : Demand) → Contains (row number asked) d → Meets version d.range.now) → (q : ℕ) → Contains taken q → Suits ms (needs_of ms q) place
+  pub asked_met : ((d : Demand) → Contains (row number asked) d → IsInRange version d.range.now) → (q : ℕ) → Contains taken q
+      → IsSuited ms (needs_of ms q) place
   asked_met all = λ q j d i e. claim_met all (record { from = Some q; need = d }) (need_claim ms wanted taken q d j i) e
 
   -- a demand of the row that is not met
-  pub refused_conflict : (d : Demand) (both : List ℕ) → Contains (row number asked) d → (Meets version d.range.now → ⊥) →
+  pub refused_conflict : (d : Demand) (both : List ℕ) → Contains (row number asked) d → (IsInRange version d.range.now → ⊥) →
       ((x : ℕ) → Contains both x ↔ (place ≡ x) ⊎ (d.from ≡ Some x)) → IsConflictWith ms wanted taken place both
   refused_conflict d both i bad are =
       let r = in_filter (λ (e : Demand). eqb e.number number) asked d i in
@@ -140,7 +142,7 @@ module _ (ms : List Member) (wanted : List Need) (taken : List ℕ) (asked : Lis
 module _ (ms : List Member) (wanted : List Need) (taken : List ℕ) (chosen : List (Option ℕ)) (place : ℕ) (demands : List Demand) (is : IsChosen ms taken
     chosen) (h : AreDemands ms (claims_from (Some place) (needs_of ms place)) demands) where
   pub needs_met : ((d : Demand) (q : ℕ) → Contains demands d → slice_index_or chosen d.number None ≡ Some q → IsMetIn ms d.range.now q) → (q : ℕ) →
-      Contains taken q → Suits ms (needs_of ms place) q
+      Contains taken q → IsSuited ms (needs_of ms place) q
   needs_met all = λ q j d i e.
       let r = demand_for ms (claims_from (Some place) (needs_of ms place)) demands (record {
         from = Some place;

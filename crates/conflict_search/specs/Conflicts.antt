@@ -3,7 +3,7 @@ use Rattle.std.specs.Prelude.{◌≡◌, ◌≢◌, ◌⊎◌, ℕ, List, [], �
 use Rattle.std.specs.List.{Contains}
 use Rattle.recipe_reader.specs.Members.{Need, Member}
 use Rattle.recipe_reader.specs.Sets.{needs_of, required_names, IsWalk}
-use Rattle.recipe_reader.specs.Searches.{IsConsistent, Suits}
+use Rattle.recipe_reader.specs.Searches.{IsConsistent, IsSuited}
 
 -- no consistent walk has all of the places
 pub record IsNogood (ms : List Member) (wanted : List Need) (conflict : List ℕ) : Type 0 where
@@ -35,11 +35,11 @@ pub record IsReason (ms : List Member) (wanted : List Need) (taken : List ℕ) (
 
 -- ranges hold among the places, each with each other
 pub record AreInRange (ms : List Member) (wanted : List Need) (taken : List ℕ) : Type 0 where
-  pub wanted_hold : (p : ℕ) → Contains taken p → Suits ms wanted p
-  pub needs_hold : (p q : ℕ) → Contains taken p → Contains taken q → p ≢ q → Suits ms (needs_of ms p) q
+  pub wanted_hold : (p : ℕ) → Contains taken p → IsSuited ms wanted p
+  pub needs_hold : (p q : ℕ) → Contains taken p → Contains taken q → p ≢ q → IsSuited ms (needs_of ms p) q
 
 -- and among them and one place more
 pub record IsInRangeWith (ms : List Member) (wanted : List Need) (taken : List ℕ) (p : ℕ) : Type 0 where
-  pub wanted_hold : Suits ms wanted p
-  pub asked_hold : (q : ℕ) → Contains taken q → Suits ms (needs_of ms q) p
-  pub needs_hold : (q : ℕ) → Contains taken q → Suits ms (needs_of ms p) q
+  pub wanted_hold : IsSuited ms wanted p
+  pub asked_hold : (q : ℕ) → Contains taken q → IsSuited ms (needs_of ms q) p
+  pub needs_hold : (q : ℕ) → Contains taken q → IsSuited ms (needs_of ms p) q

@@ -5,14 +5,14 @@ use Rattle.dep_order.specs.declared.Need.{Need as Edge}
 use Rattle.conflict_search.specs.declared.demands.Demand.{Demand}
 
 -- an edge from one place to another
-pub record Joins (edges : List Edge) (a b : ℕ) : Type 0 where
+pub record HasEdge (edges : List Edge) (a b : ℕ) : Type 0 where
   pub by : Edge
   pub is : Contains edges by
   pub from : by.from ≡ a
   pub to : by.to ≡ b
 
 -- a place asks for the name of one that is chosen
-pub record Asks (asked : List Demand) (chosen : List (Option ℕ)) (a b : ℕ) : Type 0 where
+pub record HasDemand (asked : List Demand) (chosen : List (Option ℕ)) (a b : ℕ) : Type 0 where
   pub by : Demand
   pub is : Contains asked by
   pub from : by.from ≡ Some a
@@ -20,5 +20,5 @@ pub record Asks (asked : List Demand) (chosen : List (Option ℕ)) (a b : ℕ) :
 
 -- the edges are from the places that ask to those that are chosen
 pub record AreEdgesOf (asked : List Demand) (chosen : List (Option ℕ)) (edges : List Edge) : Type 0 where
-  pub has : (a b : ℕ) → Asks asked chosen a b → Joins edges a b
-  pub only : (a b : ℕ) → Joins edges a b → Asks asked chosen a b
+  pub has : (a b : ℕ) → HasDemand asked chosen a b → HasEdge edges a b
+  pub only : (a b : ℕ) → HasEdge edges a b → HasDemand asked chosen a b

@@ -3,7 +3,7 @@ use Rattle.std.specs.Prelude.{◌≡◌, ◌++◌, ◌∷◌, [], ℕ, List, Som
 use Rattle.std.specs.List.{All}
 use Rattle.std.specs.declared.vec.Vec.{Vec}
 use Rattle.recipe_reader.specs.Members.{Need, Member, members}
-use Rattle.npm_ranges.specs.Ranges.{Meets}
+use Rattle.npm_ranges.specs.Ranges.{IsInRange}
 use Rattle.recipe_reader.specs.Sets.{asked, version_of, needs_of}
 use Rattle.recipe_reader.specs.Searches.{IsBest}
 use Rattle.conflict_search.specs.Numbers.{IsNumberAt, IsNextNumber}
@@ -25,7 +25,7 @@ wanted_in l = asked l.wanted.now
 
 -- the version at the place is in the range
 abbrev pub IsMetIn : List Member → List ℕ → ℕ → Type 0
-IsMetIn ms range q = IfSome (version_of ms q) (λ v. Meets v range)
+IsMetIn ms range q = IfSome (version_of ms q) (λ v. IsInRange v range)
 
 -- each set that is kept is one that cannot stand
 abbrev pub AreKept : List Member → List Need → Kept → Type 0
@@ -37,7 +37,7 @@ IsTrial ms wanted taken place (Fits demands) = IsInRangeWith ms wanted taken pla
 IsTrial ms wanted taken place (Refused conflict) = IsConflictWith ms wanted taken place conflict.items
 
 -- the decided places may go on, and what is kept holds
-pub record Stands (library : Library) (state : State) : Type 0 where
+pub record IsSearchState (library : Library) (state : State) : Type 0 where
   pub board : IsBoard (members_in library) (wanted_in library) state.board
   pub kept : AreKept (members_in library) (wanted_in library) state.kept
   pub in_range : AreInRange (members_in library) (wanted_in library) state.board.places.items
@@ -47,7 +47,7 @@ pub record Stands (library : Library) (state : State) : Type 0 where
 pub record FailsWith (library : Library) (old new : State) (taken places : List ℕ) : Type 0 where
   pub conflict : IsConflict (members_in library) (wanted_in library) taken places
   pub same : new.board.places.items ≡ old.board.places.items
-  pub stands : Stands library new
+  pub stands : IsSearchState library new
 
 -- a place was taken last, for the name with that number, which came next
 pub record WasTaken (ms : List Member) (wanted : List Need) (number place : ℕ) (taken : List ℕ) : Type 0 where

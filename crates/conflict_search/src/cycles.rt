@@ -2,10 +2,10 @@
 
 ghost use Rattle.std.specs.Prelude.{◌≡◌, ◌<◌, ◌^◌, Some, None, ℕ, length, slice_index_or, IfOk, MatchOption};
 ghost use Rattle.std.specs.List.{All, Contains};
-ghost use Rattle.nuc_base.specs.Leads.{Leads};
+ghost use Rattle.nuc_base.specs.Leads.{HasPath};
 ghost use Rattle.dep_order.specs.Orders as orders;
 ghost use Rattle.dep_order.specs.Faults.{IfCycle};
-ghost use Rattle.recipe_reader.specs.Sets.{Needs};
+ghost use Rattle.recipe_reader.specs.Sets.{HasDependency};
 ghost use Rattle.recipe_reader.specs.Searches.{IsConsistent};
 ghost use Rattle.conflict_search.specs.Conflicts.{IsConflict, AreInRange};
 ghost use Rattle.conflict_search.specs.Boards.{IsBoard};

@@ -5,7 +5,7 @@ ghost use Rattle.recipe_reader.specs.Members.{members, IsRising};
 ghost use Rattle.recipe_reader.specs.Sets.{asked, IsPreferred, IsValid};
 ghost use Rattle.recipe_reader.specs.Searches.{IsBest};
 ghost use Rattle.recipe_reader.specs.Candidates.{AreCandidates};
-ghost use Rattle.conflict_search.specs.Stands.{members_in, wanted_in, Stands};
+ghost use Rattle.conflict_search.specs.Stands.{members_in, wanted_in, IsSearchState};
 
 use crate::board::Board;
 use crate::demands::demands_wanted;
@@ -31,7 +31,7 @@ impl<'a> Library<'a> {
         requires rising { IsRising (members_in self.now) }
         ensures { IfOk result (λ start. MatchOption start
             ((s : List ℕ) → IsValid (members_in self.now) (wanted_in self.now) s → ⊥)
-            (λ state. Stands self.now state × (state.board.places.items ≡ []))) }
+            (λ state. IsSearchState self.now state × (state.board.places.items ≡ []))) }
     {
         let Some(demands) = demands_wanted(self.alloc, self.candidates, self.wanted)? else {
             return Ok(None);

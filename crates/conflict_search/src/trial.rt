@@ -2,10 +2,10 @@
 
 ghost use Rattle.std.specs.Prelude.{◌≡◌, ◌<◌, ◌↔◌, ◌^◌, ◌⊎◌, ℕ, Some, None, length, slice_index_or, IfOk, MatchOption};
 ghost use Rattle.std.specs.List.{Contains};
-ghost use Rattle.npm_ranges.specs.Ranges.{Meets};
+ghost use Rattle.npm_ranges.specs.Ranges.{IsInRange};
 ghost use Rattle.recipe_reader.specs.Members.{IsRising};
 ghost use Rattle.recipe_reader.specs.Sets.{needs_of};
-ghost use Rattle.recipe_reader.specs.Searches.{Suits};
+ghost use Rattle.recipe_reader.specs.Searches.{IsSuited};
 ghost use Rattle.conflict_search.specs.Numbers.{IsNumberAt};
 ghost use Rattle.conflict_search.specs.Claims.{claims_from, AreDemands};
 ghost use Rattle.conflict_search.specs.Conflicts.{IsConflictWith, IsInRangeWith};
@@ -33,8 +33,8 @@ pub(crate) enum Trial<'a> {
 /// The first demand that the version does not meet.
 fn first_refusing<'a>(row: &[Demand<'a>], version: &Version) -> Option<Demand<'a>>
     ensures { MatchOption result
-        ((d : Demand) → Contains row.now d → Meets version.now d.range.now)
-        (λ d. Contains row.now d × (Meets version.now d.range.now → ⊥)) }
+        ((d : Demand) → Contains row.now d → IsInRange version.now d.range.now)
+        (λ d. Contains row.now d × (IsInRange version.now d.range.now → ⊥)) }
 {
     for demand in row {
         if !demand.range.holds(version) {
@@ -67,8 +67,8 @@ impl<'a> Library<'a> {
         requires board { IsBoard (members_in self.now) (wanted_in self.now) board.now }
         requires number { IsNumberAt (members_in self.now) place number }
         ensures { IfOk result (λ found. MatchOption found
-            (Suits (members_in self.now) (wanted_in self.now) place
-            × ((q : ℕ) → Contains board.now.places.items q → Suits (members_in self.now) (needs_of (members_in self.now) q) place))
+            (IsSuited (members_in self.now) (wanted_in self.now) place
+            × ((q : ℕ) → Contains board.now.places.items q → IsSuited (members_in self.now) (needs_of (members_in self.now) q) place))
             (λ conflict. IsConflictWith (members_in self.now) (wanted_in self.now) board.now.places.items place conflict.items)) }
     {
         match first_refusing(board.row(number), version_at(self.candidates, place)) {
@@ -106,7 +106,7 @@ impl<'a> Library<'a> {
         requires board { IsBoard (members_in self.now) (wanted_in self.now) board.now }
         requires demands { AreDemands (members_in self.now) (claims_from (Some place) (needs_of (members_in self.now) place)) demands.now }
         ensures { IfOk result (λ found. MatchOption found
-            ((q : ℕ) → Contains board.now.places.items q → Suits (members_in self.now) (needs_of (members_in self.now) place) q)
+            ((q : ℕ) → Contains board.now.places.items q → IsSuited (members_in self.now) (needs_of (members_in self.now) place) q)
             (λ conflict. IsConflictWith (members_in self.now) (wanted_in self.now) board.now.places.items place conflict.items)) }
     {
         match self.first_unfit(board, demands) {
@@ -121,8 +121,8 @@ impl<'a> Library<'a> {
         requires rising { IsRising (members_in self.now) }
         requires board { IsBoard (members_in self.now) (wanted_in self.now) board.now }
         requires place { place < length self.now.candidates.now }
-        requires wanted { Suits (members_in self.now) (wanted_in self.now) place }
-        requires asked { (q : ℕ) → Contains board.now.places.items q → Suits (members_in self.now) (needs_of (members_in self.now) q) place }
+        requires wanted { IsSuited (members_in self.now) (wanted_in self.now) place }
+        requires asked { (q : ℕ) → Contains board.now.places.items q → IsSuited (members_in self.now) (needs_of (members_in self.now) q) place }
         ensures { IfOk result (IsTrial (members_in self.now) (wanted_in self.now) board.now.places.items place) }
     {
         let Some(demands) = demands_of(self.alloc, self.candidates, place)? else {

@@ -9,7 +9,7 @@ ghost use Rattle.conflict_search.specs.Numbers.{IsNumber, IsNumberAt, IsNextNumb
 ghost use Rattle.conflict_search.specs.Claims.{claims_from, AreDemands};
 ghost use Rattle.conflict_search.specs.Conflicts.{IsReason, IsInRangeWith};
 ghost use Rattle.conflict_search.specs.Boards.{IsBoard};
-ghost use Rattle.conflict_search.specs.Stands.{members_in, wanted_in, Stands, FailsWith, WasTaken};
+ghost use Rattle.conflict_search.specs.Stands.{members_in, wanted_in, IsSearchState, FailsWith, WasTaken};
 
 use crate::board::Board;
 use crate::conflicts::{add_others, has};
@@ -111,7 +111,7 @@ impl<'a> Library<'a> {
     ) -> Result<Option<Vec<u32>>, NoMemory>
         requires count { length self.now.candidates.now < 2 ^ 32 }
         requires rising { IsRising (members_in self.now) }
-        requires stands { Stands self.now state.old }
+        requires stands { IsSearchState self.now state.old }
         requires next { IsNextNumber (members_in self.now) (wanted_in self.now) state.old.board.places.items number }
         requires place { IsNumberAt (members_in self.now) place number }
         requires fits { IsInRangeWith (members_in self.now) (wanted_in self.now) state.old.board.places.items place }
@@ -141,7 +141,7 @@ impl<'a> Library<'a> {
     ) -> Result<Option<Vec<u32>>, NoMemory>
         requires count { length self.now.candidates.now < 2 ^ 32 }
         requires rising { IsRising (members_in self.now) }
-        requires stands { Stands self.now state.old }
+        requires stands { IsSearchState self.now state.old }
         requires next { IsNextNumber (members_in self.now) (wanted_in self.now) state.old.board.places.items number }
         requires place { IsNumberAt (members_in self.now) place number }
         ensures found { IfOk result (λ found. MatchOption found
@@ -167,7 +167,7 @@ impl<'a> Library<'a> {
     ) -> Result<Option<Vec<u32>>, NoMemory>
         requires count { length self.now.candidates.now < 2 ^ 32 }
         requires rising { IsRising (members_in self.now) }
-        requires stands { Stands self.now state.old }
+        requires stands { IsSearchState self.now state.old }
         requires next { IsNextNumber (members_in self.now) (wanted_in self.now) state.old.board.places.items number }
         ensures found { IfOk result (λ found. MatchOption found
             (IsBest (members_in self.now) (wanted_in self.now) state.old.board.places.items state.new.board.places.items)
@@ -198,7 +198,7 @@ impl<'a> Library<'a> {
     ) -> Result<Option<Vec<u32>>, NoMemory>
         requires count { length self.now.candidates.now < 2 ^ 32 }
         requires rising { IsRising (members_in self.now) }
-        requires stands { Stands self.now state.old }
+        requires stands { IsSearchState self.now state.old }
         ensures found { IfOk result (λ found. MatchOption found
             (IsBest (members_in self.now) (wanted_in self.now) state.old.board.places.items state.new.board.places.items)
             (λ conflict. FailsWith self.now state.old state.new state.old.board.places.items conflict.items)) }

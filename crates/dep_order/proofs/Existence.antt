@@ -7,7 +7,7 @@ use Rattle.std.proofs.lemmas.List.Elements.{All-push, All-nil}
 use Rattle.nuc_base.proofs.Lists.{in_nil, in_cons, in_here, in_there, distinct_push, distinct_nil, at_most}
 use Rattle.dep_order.specs.declared.Need.{Need}
 use Rattle.dep_order.specs.declared.Edges.{Edges}
-use Rattle.dep_order.specs.Orders.{Needs, AreNodes, IsReady, IsOpen, IsLeastOpen, IsOrderAfter, IsOrder, IsWhole, IsWholeOrder, IsAcyclic, NeedsComeFirst}
+use Rattle.dep_order.specs.Orders.{HasNeed, AreNodes, IsReady, IsOpen, IsLeastOpen, IsOrderAfter, IsOrder, IsWhole, IsWholeOrder, IsAcyclic, NeedsComeFirst}
 use Rattle.dep_order.specs.Orders.{AreLinked}
 use Rattle.dep_order.proofs.Counted.{any_to, any_from}
 use Rattle.dep_order.proofs.Cycles.{needs_nodes, linked_push, cycle_at, cycle_leads, order_ends}
@@ -50,7 +50,7 @@ met_or_lacks taken p (e ∷ needs) = elim (met_or_lacks taken p needs) [
   ]
 ]
 
-ready_or_not : (edges : Edges) (taken : List ℕ) (p : ℕ) → IsReady edges taken p ⊎ ((q : ℕ) × Needs edges p q × (Contains taken q → ⊥))
+ready_or_not : (edges : Edges) (taken : List ℕ) (p : ℕ) → IsReady edges taken p ⊎ ((q : ℕ) × HasNeed edges p q × (Contains taken q → ⊥))
 ready_or_not edges taken p = elim (met_or_lacks taken p edges.needs) [
   | inl met ↦ inl (λ q n. subst (Contains taken) n.to (met.all n.by n.is n.from))
   | inr l ↦ (let e = l.by in inr (e.to, record { by = e; is = l.is; from = l.from; to = refl }, l.untaken))
@@ -147,7 +147,7 @@ ordered edges nodes acyclic =
     let o = order_exists edges in
     (o.0, record { order = o.1; whole = whole_if_acyclic edges o.0 nodes acyclic o.1 })
 
-first_after : (edges : Edges) (taken before after : List ℕ) (p q : ℕ) → IsOrderAfter edges taken (before ++ p ∷ after) → Needs edges p q →
+first_after : (edges : Edges) (taken before after : List ℕ) (p q : ℕ) → IsOrderAfter edges taken (before ++ p ∷ after) → HasNeed edges p q →
     Contains (taken ++ before) q
 first_after edges taken [] after p q o n =
     let least = o.0 in

@@ -7,7 +7,7 @@ use Rattle.std.proofs.lemmas.Bool.{eqb-true, eq-eqb, false≢true}
 use Rattle.std.proofs.lemmas.List.{take_more, take_all, take-append-le}
 use Rattle.std.proofs.lemmas.List.Elements.{Contains-push, Contains-push_cases, Contains-append_left, Contains-append_cases}
 use Rattle.std.proofs.lemmas.List.Sorted.{IsPermutation-sym, Contains-permutation}
-use Rattle.nuc_base.specs.Leads.{Leads, direct, through}
+use Rattle.nuc_base.specs.Leads.{HasPath, direct, through}
 use Rattle.nuc_base.proofs.Lists.{in_nil}
 use Rattle.dep_order.specs.declared.Need.{Need}
 use Rattle.dep_order.specs.declared.Edges.{Edges}
@@ -135,14 +135,14 @@ closed_first edges of rows found r adds = record {
 pub closed_more : (edges : Edges) (of : ℕ) (rows : List Need) (i d : ℕ) (old new : List ℕ) → AreRows edges.needs rows → i < length old →
     AddsRow (filter (λ e. eqb e.to (get_or old i d)) rows) old new → IsClosedFor edges of (take i old) old → IsClosedFor edges of (take (i + 1) new) new
 closed_more edges of rows i d old new r lt adds h =
-    let front : take (i + 1) new ≡ take i old ++ get_or old i d ∷ [] = ap (take (i + 1)) adds.grows
+    let prefix : take (i + 1) new ≡ take i old ++ get_or old i d ∷ [] = ap (take (i + 1)) adds.grows
     ∙ take-append-le (i + 1) old adds.rest (omega (arith, lt)) ∙ take_more old i d lt in
     record {
       all = λ a b n l.
           let keep = adds_keeps (filter (λ e. eqb e.to (get_or old i d)) rows) old new a adds in
           elim l [
             | inl e ↦ keep (h.all a b n (inl e))
-            | inr j ↦ elim (Contains-push_cases (take i old) (get_or old i d) b (subst (λ l. Contains l b) front j)) [
+            | inr j ↦ elim (Contains-push_cases (take i old) (get_or old i d) b (subst (λ l. Contains l b) prefix j)) [
               | inl k ↦ keep (h.all a b n (inr k))
               | inr e ↦ adds.all a (row_from_needs edges rows a (get_or old i d) r (subst (NeedsHard edges a) (sym e) n))
             ]
@@ -155,7 +155,7 @@ closed_all edges of i found le h =
     record { all = all.all }
 
 -- what leads to the place is found
-pub found_from : (edges : Edges) (of : ℕ) (found : List ℕ) → IsClosed edges of found → {p q : ℕ} → Leads (NeedsHard edges) p q → q ≡ of → Contains found p
+pub found_from : (edges : Edges) (of : ℕ) (found : List ℕ) → IsClosed edges of found → {p q : ℕ} → HasPath (NeedsHard edges) p q → q ≡ of → Contains found p
 found_from edges of found h (direct {a = x} {b = y} r) e = h.all x y r (inl e)
 found_from edges of found h (through {a = x} {b = y} {c = z} r m) e = h.all x y r (inr (found_from edges of found h m e))
 

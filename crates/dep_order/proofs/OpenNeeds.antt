@@ -7,7 +7,7 @@ use Rattle.std.proofs.lemmas.List.Elements.{Contains-push_cases, Contains-get_or
 use Rattle.nuc_base.proofs.Lists.{in_nil}
 use Rattle.dep_order.specs.declared.Need.{Need}
 use Rattle.dep_order.specs.declared.Edges.{Edges}
-use Rattle.dep_order.specs.Orders.{Needs, IsReady}
+use Rattle.dep_order.specs.Orders.{HasNeed, IsReady}
 
 -- what the place needs by these needs is taken
 pub record AreTakenOf (taken : List ℕ) (p : ℕ) (needs : List Need) : Type 0 where
@@ -15,7 +15,7 @@ pub record AreTakenOf (taken : List ℕ) (p : ℕ) (needs : List Need) : Type 0 
 
 -- something that the place needs and that is not taken, or nothing where by these needs there is no such
 abbrev pub IsOpenNeed : Edges → List ℕ → List Need → ℕ → Option ℕ → Type 0
-IsOpenNeed edges taken needs p o = MatchOption o (AreTakenOf taken p needs) (λ q. Needs edges p q × (Contains taken q → ⊥))
+IsOpenNeed edges taken needs p o = MatchOption o (AreTakenOf taken p needs) (λ q. HasNeed edges p q × (Contains taken q → ⊥))
 
 -- so for each place
 pub record AreOpenNeeds (edges : Edges) (taken : List ℕ) (needs : List Need) (next : List (Option ℕ)) : Type 0 where
@@ -59,7 +59,7 @@ open_set edges taken i d next lt place free h =
       each = λ p. elim (cases_eq p e.from) [
         | inl same ↦
             (let at : get_or new p None ≡ Some e.to = ap (λ k. get_or new k None) same ∙ get_or-set_same next e.from (Some e.to) None place in
-            let needs : Needs edges p e.to = record { by = e; is = Contains-get_or edges.needs i d lt; from = sym same; to = refl } in
+            let needs : HasNeed edges p e.to = record { by = e; is = Contains-get_or edges.needs i d lt; from = sym same; to = refl } in
             subst (IsOpenNeed edges taken (take (i + 1) edges.needs) p) (sym at) (needs, free))
         | inr ne ↦
             (let at : get_or new p None ≡ get_or next p None = get_or-set_other next e.from p (Some e.to) None ne in
@@ -69,12 +69,12 @@ open_set edges taken i d next lt place free h =
     }
 
 ready_if_none : (edges : Edges) (taken : List ℕ) (p : ℕ) (o : Option ℕ) → IsOpenNeed edges taken edges.needs p o →
-    MatchOption o (IsReady edges taken p) (λ q. Needs edges p q × (Contains taken q → ⊥))
+    MatchOption o (IsReady edges taken p) (λ q. HasNeed edges p q × (Contains taken q → ⊥))
 ready_if_none edges taken p None h = λ q n. subst (Contains taken) n.to (h.all n.by n.is n.from)
 ready_if_none edges taken p (Some q) h = h
 
 pub open_all : (edges : Edges) (taken : List ℕ) (i : ℕ) (next : List (Option ℕ)) → length edges.needs ≤ i →
-    AreOpenNeeds edges taken (take i edges.needs) next → (p : ℕ) → MatchOption (get_or next p None) (IsReady edges taken p) (λ q. Needs edges p q ×
+    AreOpenNeeds edges taken (take i edges.needs) next → (p : ℕ) → MatchOption (get_or next p None) (IsReady edges taken p) (λ q. HasNeed edges p q ×
     (Contains taken q → ⊥))
 open_all edges taken i next le h = λ p.
     let all = subst (λ ns. AreOpenNeeds edges taken ns next) (take_all i edges.needs le) h in

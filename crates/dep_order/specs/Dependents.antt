@@ -1,7 +1,7 @@
 -- Hard dependents, in the middle of the search for them.
 use Rattle.std.specs.Prelude.{ℕ, ◌≡◌, ◌⊎◌, true, List, ◌++◌}
 use Rattle.std.specs.List.{Contains}
-use Rattle.nuc_base.specs.Leads.{Leads}
+use Rattle.nuc_base.specs.Leads.{HasPath}
 use Rattle.dep_order.specs.declared.Need.{Need}
 use Rattle.dep_order.specs.declared.Edges.{Edges}
 use Rattle.dep_order.specs.Orders.{NeedsHard}
@@ -22,7 +22,7 @@ pub record AddsRow (row : List Need) (old new : List ℕ) : Type 0 where
 
 -- what is found leads to the place
 abbrev pub HasFound : Edges → ℕ → List ℕ → Type 0
-HasFound edges of found = (p : ℕ) → Contains found p → Leads (NeedsHard edges) p of
+HasFound edges of found = (p : ℕ) → Contains found p → HasPath (NeedsHard edges) p of
 
 -- nothing outside needs the place, or what is found, hard
 pub record IsClosed (edges : Edges) (of : ℕ) (found : List ℕ) : Type 0 where

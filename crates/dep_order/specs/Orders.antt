@@ -1,12 +1,12 @@
 -- Places that need places: the order that takes again and again the least place whose needs are all taken, and cycles.
 use Rattle.std.specs.Prelude.{ℕ, ◌<◌, ◌≤◌, ◌≡◌, true, List, [], ◌∷◌, ◌++◌}
 use Rattle.std.specs.List.{All, Contains}
-use Rattle.nuc_base.specs.Leads.{Leads}
+use Rattle.nuc_base.specs.Leads.{HasPath}
 use Rattle.dep_order.specs.declared.Need.{Need}
 use Rattle.dep_order.specs.declared.Edges.{Edges}
 
 -- one place needs another
-pub record Needs (edges : Edges) (a b : ℕ) : Type 0 where
+pub record HasNeed (edges : Edges) (a b : ℕ) : Type 0 where
   pub by : Need
   pub is : Contains edges.needs by
   pub from : by.from ≡ a
@@ -26,11 +26,11 @@ AreNodes edges = All (λ e. (e.from < edges.nodes) × (e.to < edges.nodes)) edge
 
 -- no place needs itself, by one or more needs
 abbrev pub IsAcyclic : Edges → Type 0
-IsAcyclic edges = (p : ℕ) → Leads (Needs edges) p p → ⊥
+IsAcyclic edges = (p : ℕ) → HasPath (HasNeed edges) p p → ⊥
 
 -- all that the place needs is taken
 abbrev pub IsReady : Edges → List ℕ → ℕ → Type 0
-IsReady edges taken p = (q : ℕ) → Needs edges p q → Contains taken q
+IsReady edges taken p = (q : ℕ) → HasNeed edges p q → Contains taken q
 
 -- a place that could be taken next
 pub record IsOpen (edges : Edges) (taken : List ℕ) (p : ℕ) : Type 0 where
@@ -62,7 +62,7 @@ pub record IsWholeOrder (edges : Edges) (list : List ℕ) : Type 0 where
 
 -- what a place of the list needs stands before it
 abbrev pub NeedsComeFirst : Edges → List ℕ → Type 0
-NeedsComeFirst edges list = (before after : List ℕ) (p q : ℕ) → list ≡ before ++ p ∷ after → Needs edges p q → Contains before q
+NeedsComeFirst edges list = (before after : List ℕ) (p q : ℕ) → list ≡ before ++ p ∷ after → HasNeed edges p q → Contains before q
 
 abbrev pub head_or : List ℕ → ℕ → ℕ
 head_or [] last = last
@@ -71,7 +71,7 @@ head_or (p ∷ ps) last = p
 -- each needs the next, and the last of the list needs the place given
 abbrev pub AreLinked : Edges → List ℕ → ℕ → Type 0
 AreLinked edges [] last = Unit {0}
-AreLinked edges (p ∷ ps) last = Needs edges p (head_or ps last) × AreLinked edges ps last
+AreLinked edges (p ∷ ps) last = HasNeed edges p (head_or ps last) × AreLinked edges ps last
 
 -- each needs the next, and the last needs the first
 abbrev pub IsCycle : Edges → List ℕ → Type 0

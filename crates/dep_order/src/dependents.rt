@@ -3,7 +3,7 @@
 ghost use Rattle.std.specs.Prelude.{◌≡◌, ℕ, List, ◌++◌, ◌<◌, ◌↔◌, length, IfOk, OnOk};
 ghost use Rattle.std.specs.List.{All, Contains};
 ghost use Rattle.std.specs.List.Sorted.{IsStrictlyIncreasing};
-ghost use Rattle.nuc_base.specs.Leads.{Leads};
+ghost use Rattle.nuc_base.specs.Leads.{HasPath};
 ghost use Rattle.dep_order.specs.Orders.{NeedsHard, AreNodes};
 ghost use Rattle.dep_order.specs.Dependents.{AddsRow, IsClosed, HasFound};
 ghost use Rattle.dep_order.specs.Places.{IsTidy};
@@ -56,7 +56,7 @@ fn find_all(alloc: Global, edges: &Edges, rows: &[Need], of: u32) -> Result<Plac
 pub fn hard_dependents(alloc: Global, edges: &Edges, of: u32) -> Result<List<u32>, NoMemory>
     requires { AreNodes edges.now }
     ensures rising { IfOk result IsStrictlyIncreasing }
-    ensures exact { IfOk result (λ list. (p : ℕ) → Contains list p ↔ Leads (NeedsHard edges.now) p of) }
+    ensures exact { IfOk result (λ list. (p : ℕ) → Contains list p ↔ HasPath (NeedsHard edges.now) p of) }
 {
     let rows = rows_of(alloc, edges.needs.as_slice())?;
     let found = find_all(alloc, edges, rows.as_slice(), of)?;

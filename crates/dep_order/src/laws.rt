@@ -1,8 +1,8 @@
 //! What follows from the definition of an order alone, whatever a run of `order` answers.
 
 ghost use Rattle.std.specs.Prelude.{◌≡◌, List, ℕ, ◌↔◌};
-ghost use Rattle.nuc_base.specs.Leads.{Leads};
-ghost use Rattle.dep_order.specs.Orders.{AreNodes, IsOrder, IsWholeOrder, IsAcyclic, IsCycle, Needs, NeedsComeFirst};
+ghost use Rattle.nuc_base.specs.Leads.{HasPath};
+ghost use Rattle.dep_order.specs.Orders.{AreNodes, IsOrder, IsWholeOrder, IsAcyclic, IsCycle, HasNeed, NeedsComeFirst};
 
 use crate::Edges;
 
@@ -24,5 +24,5 @@ pub fn one_order(edges: &Edges)
 
 /// A cycle leads from a place to itself, so that where there is one the needs are not acyclic.
 pub fn cycle_leads_to_itself(edges: &Edges)
-    ensures { (list : List ℕ) → IsCycle edges.now list → (p : ℕ) × Leads (Needs edges.now) p p }
+    ensures { (list : List ℕ) → IsCycle edges.now list → (p : ℕ) × HasPath (HasNeed edges.now) p p }
 {}

@@ -2,7 +2,7 @@
 
 ghost use Rattle.std.specs.Prelude.{◌≡◌, ℕ, List, ◌<◌, length, IfOk, MatchOption, slice_index, slice_index_or, drop};
 ghost use Rattle.std.specs.List.{Contains};
-ghost use Rattle.dep_order.specs.Orders.{Needs, AreNodes, IsReady, IsOpen, IsOrder, IsWhole, IsWholeOrder, IsAcyclic, IsCycle};
+ghost use Rattle.dep_order.specs.Orders.{HasNeed, AreNodes, IsReady, IsOpen, IsOrder, IsWhole, IsWholeOrder, IsAcyclic, IsCycle};
 ghost use Rattle.dep_order.specs.Places.{IsTidy};
 ghost use Rattle.dep_order.specs.Rows.{AreRows};
 ghost use Rattle.dep_order.specs.Faults.{IfCycle};
@@ -86,7 +86,7 @@ fn open_needs(alloc: Global, edges: &Edges, taken: &Places) -> Result<Vec<Option
     ensures count { IfOk result (λ next. length next.items ≡ edges.now.nodes) }
     ensures each { IfOk result (λ next. (p : ℕ) → MatchOption (slice_index_or next.items p None)
         (IsReady edges.now taken.now.list.items p)
-        (λ q. Needs edges.now p q × (Contains taken.now.list.items q → ⊥))) }
+        (λ q. HasNeed edges.now p q × (Contains taken.now.list.items q → ⊥))) }
 {
     let mut next = nothing(alloc, edges.nodes)?;
     for need in edges.needs.as_slice() {

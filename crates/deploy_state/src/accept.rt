@@ -11,7 +11,7 @@ ghost use Rattle.device.specs.Regularity.{IsRegularRecord};
 ghost use Rattle.device.specs.Sound.{IsSound};
 ghost use Rattle.device.specs.Spares.{IsSpareFor};
 ghost use Rattle.deploy_state.specs.Accepting.{HandsBack, HasStopped, IsFullAt, IsFullOrShort, IsHandedBack, booting_log, idle_log, receipt_id};
-ghost use Rattle.deploy_state.specs.Objects.{Holds, KeepsOthers, LeavesDevice, LeavesOneOf, entry_start};
+ghost use Rattle.deploy_state.specs.Objects.{OwnsOver, KeepsOthers, LeavesDevice, LeavesOneOf, entry_start};
 ghost use Rattle.deploy_state.specs.States.{OwnsBooting, OwnsIdle, booting_device, idle_device};
 ghost use Rattle.deploy_state.specs.Turning.{IsTooFar, can_turn, is_turning, next_front, plan_bytes};
 
@@ -96,7 +96,7 @@ fn prepare(alloc: Global, device: &Device, plan: Plan) -> Result<Kit, NoMemory>
 impl<J: Journal + Drop> Idle<J> {
     /// Adds the entry of the plan, and lets the device take it.
     fn enter<D: Disk>(self, disk: &mut D, kit: Kit) -> Result<(Booting<J>, Receipt), Stopped<J>>
-        requires held { Holds D.Disk J.Journal OwnsIdle self disk.old }
+        requires held { OwnsOver D.Disk J.Journal OwnsIdle self disk.old }
         requires lawful { Allowed (idle_device self) (stored.Accepted (plan_view kit.plan)) }
         requires regular { IsRegularRecord (stored.Accepted (plan_view kit.plan)) }
         requires payload { Spelled kit.payload (stored.Accepted (plan_view kit.plan)) }
@@ -105,7 +105,7 @@ impl<J: Journal + Drop> Idle<J> {
         ensures moments { LeavesOneOf D.Disk J.Journal disk.old disk.new (idle_device self)
             (applied (idle_device self) (stored.Accepted (plan_view kit.plan))) }
         ensures taken { IfOk result (λ r. booting_device r.0 ≡ applied (idle_device self) (stored.Accepted (plan_view kit.plan))) }
-        ensures held { IfOk result (λ r. Holds D.Disk J.Journal OwnsBooting r.0 disk.new) }
+        ensures held { IfOk result (λ r. OwnsOver D.Disk J.Journal OwnsBooting r.0 disk.new) }
         ensures receipt { IfOk result (λ r. receipt_id r.1 ≡ kit.id) }
         ensures end { IfOk result (λ r. J.end (booting_log r.0) ≡ J.end (idle_log self) + 5 + length kit.payload) }
         ensures number { IfOk result (λ r. J.number (booting_log r.0) ≡ J.number (idle_log self)) }
@@ -148,7 +148,7 @@ impl<J: Journal + Drop> Idle<J> {
         disk: &mut D,
         kit: Kit,
     ) -> Result<(Booting<J>, Receipt), AcceptRefusal<J>>
-        requires held { Holds D.Disk J.Journal OwnsIdle self disk.old }
+        requires held { OwnsOver D.Disk J.Journal OwnsIdle self disk.old }
         requires lawful { Allowed (idle_device self) (stored.Accepted (plan_view kit.plan)) }
         requires regular { IsRegularRecord (stored.Accepted (plan_view kit.plan)) }
         requires payload { Spelled kit.payload (stored.Accepted (plan_view kit.plan)) }
@@ -159,11 +159,11 @@ impl<J: Journal + Drop> Idle<J> {
             (applied (idle_device self) (stored.Accepted (plan_view kit.plan))) }
         ensures unmade { IsHandedBack result → LeavesDevice D.Disk J.Journal disk.old disk.new (idle_device self) }
         ensures taken { IfOk result (λ r. booting_device r.0 ≡ applied (idle_device self) (stored.Accepted (plan_view kit.plan))) }
-        ensures held { IfOk result (λ r. Holds D.Disk J.Journal OwnsBooting r.0 disk.new) }
+        ensures held { IfOk result (λ r. OwnsOver D.Disk J.Journal OwnsBooting r.0 disk.new) }
         ensures receipt { IfOk result (λ r. receipt_id r.1 ≡ kit.id) }
         ensures end { IfOk result (λ r. J.end (booting_log r.0) ≡ next_front J.number (idle_log self) (idle_device self) + 5 + length kit.payload) }
         ensures number { IfOk result (λ r. J.number (booting_log r.0) ≡ J.number (idle_log self) + 1) }
-        ensures back { HandsBack (λ s. Holds D.Disk J.Journal OwnsIdle s disk.new × (idle_device s ≡ idle_device self)) result }
+        ensures back { HandsBack (λ s. OwnsOver D.Disk J.Journal OwnsIdle s disk.new × (idle_device s ≡ idle_device self)) result }
         ensures fits { (at : ℕ) → IsFullAt result at → ⊥ }
         ensures others { KeepsOthers D.Disk J.Journal disk.old disk.new }
         ensures cause { HasStopped result → Rose (D.faults disk.old) (D.faults disk.new) }
@@ -196,7 +196,7 @@ impl<J: Journal + Drop> Idle<J> {
         kit: Kit,
         site: Site,
     ) -> Result<(Booting<J>, Receipt), AcceptRefusal<J>>
-        requires held { Holds D.Disk J.Journal OwnsIdle self disk.old }
+        requires held { OwnsOver D.Disk J.Journal OwnsIdle self disk.old }
         requires lawful { Allowed (idle_device self) (stored.Accepted (plan_view kit.plan)) }
         requires regular { IsRegularRecord (stored.Accepted (plan_view kit.plan)) }
         requires payload { Spelled kit.payload (stored.Accepted (plan_view kit.plan)) }
@@ -208,10 +208,10 @@ impl<J: Journal + Drop> Idle<J> {
             (applied (idle_device self) (stored.Accepted (plan_view kit.plan))) }
         ensures unmade { IsHandedBack result → LeavesDevice D.Disk J.Journal disk.old disk.new (idle_device self) }
         ensures taken { IfOk result (λ r. booting_device r.0 ≡ applied (idle_device self) (stored.Accepted (plan_view kit.plan))) }
-        ensures held { IfOk result (λ r. Holds D.Disk J.Journal OwnsBooting r.0 disk.new) }
+        ensures held { IfOk result (λ r. OwnsOver D.Disk J.Journal OwnsBooting r.0 disk.new) }
         ensures receipt { IfOk result (λ r. receipt_id r.1 ≡ kit.id) }
         ensures end { IfOk result (λ r. J.end (booting_log r.0) ≡ site.start + 5 + length kit.payload) }
-        ensures back { HandsBack (λ s. Holds D.Disk J.Journal OwnsIdle s disk.new × (idle_device s ≡ idle_device self)) result }
+        ensures back { HandsBack (λ s. OwnsOver D.Disk J.Journal OwnsIdle s disk.new × (idle_device s ≡ idle_device self)) result }
         ensures fits { (at : ℕ) → IsFullAt result at → ⊥ }
         ensures others { KeepsOthers D.Disk J.Journal disk.old disk.new }
         ensures cause { HasStopped result → Rose (D.faults disk.old) (D.faults disk.new) }
@@ -243,16 +243,16 @@ impl<J: Journal + Drop> Idle<J> {
         disk: &mut D,
         plan: Plan,
     ) -> Result<(Booting<J>, Receipt), AcceptRefusal<J>>
-        requires held { Holds D.Disk J.Journal OwnsIdle self disk.old }
+        requires held { OwnsOver D.Disk J.Journal OwnsIdle self disk.old }
         requires lawful { Allowed (idle_device self) (stored.Accepted (plan_view plan)) }
         requires regular { IsRegularRecord (stored.Accepted (plan_view plan)) }
         ensures moments { LeavesOneOf D.Disk J.Journal disk.old disk.new (idle_device self) (applied (idle_device self) (stored.Accepted (plan_view plan))) }
         // Where the plan is handed back a crash at any moment leaves the device without it.
         ensures unmade { IsHandedBack result → LeavesDevice D.Disk J.Journal disk.old disk.new (idle_device self) }
         ensures taken { IfOk result (λ r. booting_device r.0 ≡ applied (idle_device self) (stored.Accepted (plan_view plan))) }
-        ensures held { IfOk result (λ r. Holds D.Disk J.Journal OwnsBooting r.0 disk.new) }
+        ensures held { IfOk result (λ r. OwnsOver D.Disk J.Journal OwnsBooting r.0 disk.new) }
         ensures receipt { IfOk result (λ r. receipt_id r.1 ≡ plan.id) }
-        ensures back { HandsBack (λ s. Holds D.Disk J.Journal OwnsIdle s disk.new × (idle_device s ≡ idle_device self)) result }
+        ensures back { HandsBack (λ s. OwnsOver D.Disk J.Journal OwnsIdle s disk.new × (idle_device s ≡ idle_device self)) result }
         // Full, with nothing written, exactly where the plan does not fit with what may follow it, want of memory aside.
         ensures full { (at : ℕ) → IsFullAt result at → (at ≡ entry_start J.Journal self (plan_bytes (plan_view plan)))
             × IsTooFar at (plan_bytes (plan_view plan)) × (disk.new ≡ disk.old) }

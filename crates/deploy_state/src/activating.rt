@@ -7,7 +7,7 @@ ghost use Rattle.device.specs.Devices.{device_view};
 ghost use Rattle.device.specs.Lawful.{Allowed, applied};
 ghost use Rattle.nuc_base.specs.declared.kinds.Outcome.TheVariants as outcomes;
 ghost use Rattle.deploy_state.specs.Fields.{CanBreakOff, IsBreak, broken_item};
-ghost use Rattle.deploy_state.specs.Objects.{Holds, KeepsOthers, LeavesOneOf};
+ghost use Rattle.deploy_state.specs.Objects.{OwnsOver, KeepsOthers, LeavesOneOf};
 ghost use Rattle.deploy_state.specs.States.{OwnsActivating, OwnsBrokenOff, OwnsIdle, activating_device, broken_device, idle_device};
 
 use crate::names::broken_in;
@@ -40,12 +40,12 @@ impl<J: Journal + Drop> Activating<J> {
         step: Step,
         exit: Exit,
     ) -> Result<Activating<J>, Stopped<J>>
-        requires held { Holds D.Disk J.Journal OwnsActivating self disk.old }
+        requires held { OwnsOver D.Disk J.Journal OwnsActivating self disk.old }
         requires may { Allowed (activating_device self) (stored.StepFailed name.now step exit) }
         ensures moments { LeavesOneOf D.Disk J.Journal disk.old disk.new (activating_device self)
             (applied (activating_device self) (stored.StepFailed name.now step exit)) }
         ensures taken { IfOk result (λ s. activating_device s ≡ applied (activating_device self) (stored.StepFailed name.now step exit)) }
-        ensures held { IfOk result (λ s. Holds D.Disk J.Journal OwnsActivating s disk.new) }
+        ensures held { IfOk result (λ s. OwnsOver D.Disk J.Journal OwnsActivating s disk.new) }
         ensures others { KeepsOthers D.Disk J.Journal disk.old disk.new }
         ensures cause { HasCause (D.faults disk.old) (D.faults disk.new) result }
         ensures quiet { OnOk result (D.faults disk.new ≡ D.faults disk.old) }
@@ -58,13 +58,13 @@ impl<J: Journal + Drop> Activating<J> {
 
     /// A component is broken, and the deployment is rolled back.
     pub fn break_off<D: Disk>(self, disk: &mut D) -> Result<BrokeOff<J>, Stopped<J>>
-        requires held { Holds D.Disk J.Journal OwnsActivating self disk.old }
+        requires held { OwnsOver D.Disk J.Journal OwnsActivating self disk.old }
         requires may { CanBreakOff (activating_device self) }
         ensures moments { (r : Record) → IsBreak (activating_device self) r →
             LeavesOneOf D.Disk J.Journal disk.old disk.new (activating_device self)
             (applied (activating_device self) r) }
         ensures taken { (r : Record) → IsBreak (activating_device self) r → IfOk result (λ s. broken_device s ≡ applied (activating_device self) r) }
-        ensures held { IfOk result (λ s. Holds D.Disk J.Journal OwnsBrokenOff s disk.new) }
+        ensures held { IfOk result (λ s. OwnsOver D.Disk J.Journal OwnsBrokenOff s disk.new) }
         ensures others { KeepsOthers D.Disk J.Journal disk.old disk.new }
         ensures cause { HasCause (D.faults disk.old) (D.faults disk.new) result }
         ensures quiet { OnOk result (D.faults disk.new ≡ D.faults disk.old) }
@@ -74,12 +74,12 @@ impl<J: Journal + Drop> Activating<J> {
 
     /// The failed deployment stays as it is and closes.
     pub fn keep<D: Disk>(self, disk: &mut D) -> Result<Idle<J>, Stopped<J>>
-        requires held { Holds D.Disk J.Journal OwnsActivating self disk.old }
+        requires held { OwnsOver D.Disk J.Journal OwnsActivating self disk.old }
         requires may { Allowed (activating_device self) (stored.Closed outcomes.RollbackNotRequested) }
         ensures moments { LeavesOneOf D.Disk J.Journal disk.old disk.new (activating_device self)
             (applied (activating_device self) (stored.Closed outcomes.RollbackNotRequested)) }
         ensures taken { IfOk result (λ s. idle_device s ≡ applied (activating_device self) (stored.Closed outcomes.RollbackNotRequested)) }
-        ensures held { IfOk result (λ s. Holds D.Disk J.Journal OwnsIdle s disk.new) }
+        ensures held { IfOk result (λ s. OwnsOver D.Disk J.Journal OwnsIdle s disk.new) }
         ensures others { KeepsOthers D.Disk J.Journal disk.old disk.new }
         ensures cause { HasCause (D.faults disk.old) (D.faults disk.new) result }
         ensures quiet { OnOk result (D.faults disk.new ≡ D.faults disk.old) }
@@ -89,12 +89,12 @@ impl<J: Journal + Drop> Activating<J> {
 
     /// The deployment closes as successful: no item has three failures.
     pub fn complete<D: Disk>(self, disk: &mut D) -> Result<Idle<J>, Stopped<J>>
-        requires held { Holds D.Disk J.Journal OwnsActivating self disk.old }
+        requires held { OwnsOver D.Disk J.Journal OwnsActivating self disk.old }
         requires may { Allowed (activating_device self) (stored.Closed outcomes.Successful) }
         ensures moments { LeavesOneOf D.Disk J.Journal disk.old disk.new (activating_device self)
             (applied (activating_device self) (stored.Closed outcomes.Successful)) }
         ensures taken { IfOk result (λ s. idle_device s ≡ applied (activating_device self) (stored.Closed outcomes.Successful)) }
-        ensures held { IfOk result (λ s. Holds D.Disk J.Journal OwnsIdle s disk.new) }
+        ensures held { IfOk result (λ s. OwnsOver D.Disk J.Journal OwnsIdle s disk.new) }
         ensures others { KeepsOthers D.Disk J.Journal disk.old disk.new }
         ensures cause { HasCause (D.faults disk.old) (D.faults disk.new) result }
         ensures quiet { OnOk result (D.faults disk.new ≡ D.faults disk.old) }

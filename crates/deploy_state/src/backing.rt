@@ -9,7 +9,7 @@ ghost use Rattle.device.specs.Marks.{IsMark};
 ghost use Rattle.device.specs.declared.mark.Mark.TheVariants as marks;
 ghost use Rattle.nuc_base.specs.declared.kinds.Outcome.TheVariants as outcomes;
 ghost use Rattle.deploy_state.specs.Fields.{CanBegin, IsBegun, has_failed, next_name};
-ghost use Rattle.deploy_state.specs.Objects.{Holds, KeepsOthers, LeavesOneOf};
+ghost use Rattle.deploy_state.specs.Objects.{OwnsOver, KeepsOthers, LeavesOneOf};
 ghost use Rattle.deploy_state.specs.Owned.{MayMark};
 ghost use Rattle.deploy_state.specs.States.{OwnsBacked, OwnsBacking, OwnsIdle, backed_device, backing_device, idle_device};
 
@@ -44,13 +44,13 @@ impl<J: Journal + Drop> Backing<J> {
 
     /// Records that the next back begins, unless that is recorded.
     pub fn begin<D: Disk>(self, disk: &mut D) -> Result<Backing<J>, Stopped<J>>
-        requires held { Holds D.Disk J.Journal OwnsBacking self disk.old }
+        requires held { OwnsOver D.Disk J.Journal OwnsBacking self disk.old }
         requires may { CanBegin (backing_device self) }
         ensures moments { (r : Record) → IsMark (backing_device self) marks.BootBegun r →
             LeavesOneOf D.Disk J.Journal disk.old disk.new (backing_device self)
             (applied (backing_device self) r) }
         ensures taken { (r : Record) → IsMark (backing_device self) marks.BootBegun r → IfOk result (λ s. backing_device s ≡ applied (backing_device self) r) }
-        ensures held { IfOk result (λ s. Holds D.Disk J.Journal OwnsBacking s disk.new) }
+        ensures held { IfOk result (λ s. OwnsOver D.Disk J.Journal OwnsBacking s disk.new) }
         ensures silent { IsBegun (backing_device self) → (disk.new ≡ disk.old) × IsOkAnd result (λ s. s ≡ self) }
         ensures others { KeepsOthers D.Disk J.Journal disk.old disk.new }
         ensures cause { HasCause (D.faults disk.old) (D.faults disk.new) result }
@@ -64,14 +64,14 @@ impl<J: Journal + Drop> Backing<J> {
 
     /// Records how the back that was begun ended. Behind the last of them the items of the set are brought up.
     pub fn ended<D: Disk>(self, disk: &mut D, exit: Exit) -> Result<Backed<J>, Stopped<J>>
-        requires held { Holds D.Disk J.Journal OwnsBacking self disk.old }
+        requires held { OwnsOver D.Disk J.Journal OwnsBacking self disk.old }
         requires may { MayMark (backing_device self) (marks.BootEnded exit) }
         ensures moments { (r : Record) → IsMark (backing_device self) (marks.BootEnded exit) r →
             LeavesOneOf D.Disk J.Journal disk.old disk.new (backing_device self)
             (applied (backing_device self) r) }
         ensures taken { (r : Record) → IsMark (backing_device self) (marks.BootEnded exit) r →
             IfOk result (λ s. backed_device s ≡ applied (backing_device self) r) }
-        ensures held { IfOk result (λ s. Holds D.Disk J.Journal OwnsBacked s disk.new) }
+        ensures held { IfOk result (λ s. OwnsOver D.Disk J.Journal OwnsBacked s disk.new) }
         ensures others { KeepsOthers D.Disk J.Journal disk.old disk.new }
         ensures cause { HasCause (D.faults disk.old) (D.faults disk.new) result }
         ensures quiet { OnOk result (D.faults disk.new ≡ D.faults disk.old) }
@@ -90,12 +90,12 @@ impl<J: Journal + Drop> Backing<J> {
 
     /// A back failed, and the deployment closes.
     pub fn close<D: Disk>(self, disk: &mut D) -> Result<Idle<J>, Stopped<J>>
-        requires held { Holds D.Disk J.Journal OwnsBacking self disk.old }
+        requires held { OwnsOver D.Disk J.Journal OwnsBacking self disk.old }
         requires may { Allowed (backing_device self) (stored.Closed outcomes.UnableToRollback) }
         ensures moments { LeavesOneOf D.Disk J.Journal disk.old disk.new (backing_device self)
             (applied (backing_device self) (stored.Closed outcomes.UnableToRollback)) }
         ensures taken { IfOk result (λ s. idle_device s ≡ applied (backing_device self) (stored.Closed outcomes.UnableToRollback)) }
-        ensures held { IfOk result (λ s. Holds D.Disk J.Journal OwnsIdle s disk.new) }
+        ensures held { IfOk result (λ s. OwnsOver D.Disk J.Journal OwnsIdle s disk.new) }
         ensures others { KeepsOthers D.Disk J.Journal disk.old disk.new }
         ensures cause { HasCause (D.faults disk.old) (D.faults disk.new) result }
         ensures quiet { OnOk result (D.faults disk.new ≡ D.faults disk.old) }

@@ -9,7 +9,7 @@ ghost use Rattle.device.specs.Marks.{IsMark};
 ghost use Rattle.device.specs.declared.mark.Mark.TheVariants as marks;
 ghost use Rattle.nuc_base.specs.declared.kinds.Outcome.TheVariants as outcomes;
 ghost use Rattle.deploy_state.specs.Fields.{CanBegin, CanBreakOff, IsBegun, IsBreak, has_failed, next_name};
-ghost use Rattle.deploy_state.specs.Objects.{Holds, KeepsOthers, LeavesOneOf};
+ghost use Rattle.deploy_state.specs.Objects.{OwnsOver, KeepsOthers, LeavesOneOf};
 ghost use Rattle.deploy_state.specs.Owned.{MayMark};
 ghost use Rattle.deploy_state.specs.States.{OwnsActivating, OwnsBooting, OwnsBrokenOff, OwnsIdle};
 ghost use Rattle.deploy_state.specs.States.{activating_device, booting_device, broken_device, idle_device};
@@ -45,13 +45,13 @@ impl<J: Journal + Drop> Booting<J> {
 
     /// Records that the next bootstrap step begins, unless that is recorded.
     pub fn begin<D: Disk>(self, disk: &mut D) -> Result<Booting<J>, Stopped<J>>
-        requires held { Holds D.Disk J.Journal OwnsBooting self disk.old }
+        requires held { OwnsOver D.Disk J.Journal OwnsBooting self disk.old }
         requires may { CanBegin (booting_device self) }
         ensures moments { (r : Record) → IsMark (booting_device self) marks.BootBegun r →
             LeavesOneOf D.Disk J.Journal disk.old disk.new (booting_device self)
             (applied (booting_device self) r) }
         ensures taken { (r : Record) → IsMark (booting_device self) marks.BootBegun r → IfOk result (λ s. booting_device s ≡ applied (booting_device self) r) }
-        ensures held { IfOk result (λ s. Holds D.Disk J.Journal OwnsBooting s disk.new) }
+        ensures held { IfOk result (λ s. OwnsOver D.Disk J.Journal OwnsBooting s disk.new) }
         ensures silent { IsBegun (booting_device self) → (disk.new ≡ disk.old) × IsOkAnd result (λ s. s ≡ self) }
         ensures others { KeepsOthers D.Disk J.Journal disk.old disk.new }
         ensures cause { HasCause (D.faults disk.old) (D.faults disk.new) result }
@@ -65,14 +65,14 @@ impl<J: Journal + Drop> Booting<J> {
 
     /// Records how the bootstrap step that was begun ended.
     pub fn ended<D: Disk>(self, disk: &mut D, exit: Exit) -> Result<Booting<J>, Stopped<J>>
-        requires held { Holds D.Disk J.Journal OwnsBooting self disk.old }
+        requires held { OwnsOver D.Disk J.Journal OwnsBooting self disk.old }
         requires may { MayMark (booting_device self) (marks.BootEnded exit) }
         ensures moments { (r : Record) → IsMark (booting_device self) (marks.BootEnded exit) r →
             LeavesOneOf D.Disk J.Journal disk.old disk.new (booting_device self)
             (applied (booting_device self) r) }
         ensures taken { (r : Record) → IsMark (booting_device self) (marks.BootEnded exit) r →
             IfOk result (λ s. booting_device s ≡ applied (booting_device self) r) }
-        ensures held { IfOk result (λ s. Holds D.Disk J.Journal OwnsBooting s disk.new) }
+        ensures held { IfOk result (λ s. OwnsOver D.Disk J.Journal OwnsBooting s disk.new) }
         ensures others { KeepsOthers D.Disk J.Journal disk.old disk.new }
         ensures cause { HasCause (D.faults disk.old) (D.faults disk.new) result }
         ensures quiet { OnOk result (D.faults disk.new ≡ D.faults disk.old) }
@@ -85,12 +85,12 @@ impl<J: Journal + Drop> Booting<J> {
 
     /// All bootstrap steps are ended, and the plan's items are to be brought up.
     pub fn activate<D: Disk>(self, disk: &mut D) -> Result<Activating<J>, Stopped<J>>
-        requires held { Holds D.Disk J.Journal OwnsBooting self disk.old }
+        requires held { OwnsOver D.Disk J.Journal OwnsBooting self disk.old }
         requires may { Allowed (booting_device self) stored.Activating }
         ensures moments { LeavesOneOf D.Disk J.Journal disk.old disk.new (booting_device self)
             (applied (booting_device self) stored.Activating) }
         ensures taken { IfOk result (λ s. activating_device s ≡ applied (booting_device self) stored.Activating) }
-        ensures held { IfOk result (λ s. Holds D.Disk J.Journal OwnsActivating s disk.new) }
+        ensures held { IfOk result (λ s. OwnsOver D.Disk J.Journal OwnsActivating s disk.new) }
         ensures others { KeepsOthers D.Disk J.Journal disk.old disk.new }
         ensures cause { HasCause (D.faults disk.old) (D.faults disk.new) result }
         ensures quiet { OnOk result (D.faults disk.new ≡ D.faults disk.old) }
@@ -103,13 +103,13 @@ impl<J: Journal + Drop> Booting<J> {
 
     /// A bootstrap step failed, and the deployment is rolled back.
     pub fn break_off<D: Disk>(self, disk: &mut D) -> Result<BrokeOff<J>, Stopped<J>>
-        requires held { Holds D.Disk J.Journal OwnsBooting self disk.old }
+        requires held { OwnsOver D.Disk J.Journal OwnsBooting self disk.old }
         requires may { CanBreakOff (booting_device self) }
         ensures moments { (r : Record) → IsBreak (booting_device self) r →
             LeavesOneOf D.Disk J.Journal disk.old disk.new (booting_device self)
             (applied (booting_device self) r) }
         ensures taken { (r : Record) → IsBreak (booting_device self) r → IfOk result (λ s. broken_device s ≡ applied (booting_device self) r) }
-        ensures held { IfOk result (λ s. Holds D.Disk J.Journal OwnsBrokenOff s disk.new) }
+        ensures held { IfOk result (λ s. OwnsOver D.Disk J.Journal OwnsBrokenOff s disk.new) }
         ensures others { KeepsOthers D.Disk J.Journal disk.old disk.new }
         ensures cause { HasCause (D.faults disk.old) (D.faults disk.new) result }
         ensures quiet { OnOk result (D.faults disk.new ≡ D.faults disk.old) }
@@ -119,12 +119,12 @@ impl<J: Journal + Drop> Booting<J> {
 
     /// The failed deployment stays as it is and closes.
     pub fn keep<D: Disk>(self, disk: &mut D) -> Result<Idle<J>, Stopped<J>>
-        requires held { Holds D.Disk J.Journal OwnsBooting self disk.old }
+        requires held { OwnsOver D.Disk J.Journal OwnsBooting self disk.old }
         requires may { Allowed (booting_device self) (stored.Closed outcomes.RollbackNotRequested) }
         ensures moments { LeavesOneOf D.Disk J.Journal disk.old disk.new (booting_device self)
             (applied (booting_device self) (stored.Closed outcomes.RollbackNotRequested)) }
         ensures taken { IfOk result (λ s. idle_device s ≡ applied (booting_device self) (stored.Closed outcomes.RollbackNotRequested)) }
-        ensures held { IfOk result (λ s. Holds D.Disk J.Journal OwnsIdle s disk.new) }
+        ensures held { IfOk result (λ s. OwnsOver D.Disk J.Journal OwnsIdle s disk.new) }
         ensures others { KeepsOthers D.Disk J.Journal disk.old disk.new }
         ensures cause { HasCause (D.faults disk.old) (D.faults disk.new) result }
         ensures quiet { OnOk result (D.faults disk.new ≡ D.faults disk.old) }

@@ -7,7 +7,7 @@ ghost use Rattle.records.specs.Stored as stored;
 ghost use Rattle.records.specs.declared.record.Origin.{Origin as Shown};
 ghost use Rattle.device.specs.Devices.{device_view, no_device};
 ghost use Rattle.device.specs.Lawful.{Allowed, applied};
-ghost use Rattle.deploy_state.specs.Objects.{Holds, KeepsOthers, LeavesOneOf, OwnsJournalOn};
+ghost use Rattle.deploy_state.specs.Objects.{OwnsOver, KeepsOthers, LeavesOneOf, OwnsJournalOn};
 ghost use Rattle.deploy_state.specs.States.{OwnsIdle, idle_device};
 
 use crate::fault::CreateFault;
@@ -63,7 +63,7 @@ impl<J: Journal + Drop> Idle<J> {
         requires settled { AreSettled D.seen D.may_leave J.files disk.old }
         requires short { length origin.root ≤ 1024 }
         ensures made { IfOk result (λ s. idle_device s ≡ applied no_device (stored.Genesis origin)) }
-        ensures held { IfOk result (λ s. Holds D.Disk J.Journal OwnsIdle s disk.new) }
+        ensures held { IfOk result (λ s. OwnsOver D.Disk J.Journal OwnsIdle s disk.new) }
         // An image that holds no entry stands for the device before its first record.
         ensures moments { ¬ (IsErrOf result CreateFault.NoMemory) →
             LeavesOneOf D.Disk J.Journal disk.old disk.new no_device

@@ -1,13 +1,13 @@
 // The state that a journal stands for.
 ghost use Rattle.std.specs.Prelude.{◌≡◌, ◌≤◌, ◌≢◌, [], ℕ, List, IsTrue, IsErrOf, IfOk};
 ghost use Rattle.nuc_base.specs.Faults.{Rose};
-ghost use Rattle.disk_model.specs.Disk.{Leaves};
+ghost use Rattle.disk_model.specs.Disk.{HasLeft};
 ghost use Rattle.gate_log.specs.Journal.{AreSettled, IsBehind};
 ghost use Rattle.device.specs.Devices.{device_view};
 ghost use Rattle.device.specs.Sound.{IsSound};
 ghost use Rattle.device.specs.Spares.{IsSpareOf};
-ghost use Rattle.deploy_state.specs.Loading.{IsOf, IsReady, Loads};
-ghost use Rattle.deploy_state.specs.Objects.{Holds};
+ghost use Rattle.deploy_state.specs.Loading.{IsOf, IsReady, LoadOutcome};
+ghost use Rattle.deploy_state.specs.Objects.{OwnsOver};
 ghost use Rattle.deploy_state.specs.States.{OwnsLoaded, IsIn, device_of, loaded_device};
 
 use crate::fault::LoadFault;
@@ -75,12 +75,12 @@ fn replayed<D: Disk, J: Journal + Drop>(
     requires open { (payloads : List (List ℕ)) × IsBehind D.may_leave J.stands log disk.old payloads }
     requires some { IsTrue D.is_modelled → (payloads : List (List ℕ)) × J.stands log (D.seen disk.old) payloads × (payloads ≢ []) }
     requires settled { AreSettled D.seen D.may_leave J.files disk.old }
-    ensures told { IsTrue D.is_modelled → Loads J.entries J.holds_none J.is_damaged (D.seen disk.old) result }
-    ensures held { IfOk result (λ s. Holds D.Disk J.Journal OwnsLoaded s disk.new) }
+    ensures told { IsTrue D.is_modelled → LoadOutcome J.entries J.holds_none J.is_damaged (D.seen disk.old) result }
+    ensures held { IfOk result (λ s. OwnsOver D.Disk J.Journal OwnsLoaded s disk.new) }
     ensures ready { IfOk result (λ s. IsReady (loaded_device s)) }
     ensures settled { AreSettled D.seen D.may_leave J.files disk.new }
     ensures seen { D.seen disk.new ≡ D.seen disk.old }
-    ensures moments { Leaves D.moment D.left_since disk.old disk.new (D.may_leave disk.old) }
+    ensures moments { HasLeft D.moment D.left_since disk.old disk.new (D.may_leave disk.old) }
     ensures found { IsErrOf result LoadFault.NotInitialised → ⊥ }
     ensures cause { IsErrOf result LoadFault.Disk → Rose (D.faults disk.old) (D.faults disk.new) }
     ensures quiet { ¬ (IsErrOf result LoadFault.Disk) → D.faults disk.new ≡ D.faults disk.old }
@@ -104,13 +104,13 @@ fn replayed<D: Disk, J: Journal + Drop>(
 
 /// Makes the journal stable, finds it and replays it. It writes nothing.
 pub fn load<D: Disk, J: Journal + Drop>(alloc: Global, disk: &mut D) -> Result<Loaded<J>, LoadFault>
-    ensures told { IsTrue D.is_modelled → Loads J.entries J.holds_none J.is_damaged (D.seen disk.old) result }
-    ensures held { IfOk result (λ s. Holds D.Disk J.Journal OwnsLoaded s disk.new) }
+    ensures told { IsTrue D.is_modelled → LoadOutcome J.entries J.holds_none J.is_damaged (D.seen disk.old) result }
+    ensures held { IfOk result (λ s. OwnsOver D.Disk J.Journal OwnsLoaded s disk.new) }
     ensures ready { IfOk result (λ s. IsReady (loaded_device s)) }
     // A crash leaves the journal's files as they read.
     ensures settled { ¬ (IsErrOf result LoadFault.Disk) → AreSettled D.seen D.may_leave J.files disk.new }
     ensures seen { D.seen disk.new ≡ D.seen disk.old }
-    ensures moments { Leaves D.moment D.left_since disk.old disk.new (D.may_leave disk.old) }
+    ensures moments { HasLeft D.moment D.left_since disk.old disk.new (D.may_leave disk.old) }
     ensures cause { IsErrOf result LoadFault.Disk → Rose (D.faults disk.old) (D.faults disk.new) }
     ensures quiet { ¬ (IsErrOf result LoadFault.Disk) → D.faults disk.new ≡ D.faults disk.old }
     ensures later { D.faults disk.old ≤ D.faults disk.new }

@@ -9,7 +9,7 @@ ghost use Rattle.device.specs.Marks.{IsMark};
 ghost use Rattle.device.specs.declared.mark.Mark.TheVariants as marks;
 ghost use Rattle.device.specs.declared.staged.Stage.TheVariants as stages;
 ghost use Rattle.deploy_state.specs.Fields.{CanBegin, CanBreakOff, IsBegun, IsBreak};
-ghost use Rattle.deploy_state.specs.Objects.{Holds, KeepsOthers, LeavesOneOf};
+ghost use Rattle.deploy_state.specs.Objects.{OwnsOver, KeepsOthers, LeavesOneOf};
 ghost use Rattle.deploy_state.specs.States.{OwnsBrokenOff, IsHeld, IsIn, broken_device, device_of};
 
 use crate::state::{Backing, BrokeOff, Hand, Rolling, Stopped};
@@ -40,12 +40,12 @@ impl<J: Journal + Drop> Hand<J> {
 
     /// Records that the next bootstrap step begins, unless that is recorded.
     pub(crate) fn begin<D: Disk>(self, disk: &mut D) -> Result<Hand<J>, Stopped<J>>
-        requires held { Holds D.Disk J.Journal IsHeld self disk.old }
+        requires held { OwnsOver D.Disk J.Journal IsHeld self disk.old }
         requires may { CanBegin (device_of self) }
         ensures moments { (r : Record) → IsMark (device_of self) marks.BootBegun r →
             LeavesOneOf D.Disk J.Journal disk.old disk.new (device_of self) (applied (device_of self) r) }
         ensures taken { (r : Record) → IsMark (device_of self) marks.BootBegun r → IfOk result (λ s. device_of s ≡ applied (device_of self) r) }
-        ensures held { IfOk result (λ s. Holds D.Disk J.Journal IsHeld s disk.new) }
+        ensures held { IfOk result (λ s. OwnsOver D.Disk J.Journal IsHeld s disk.new) }
         ensures silent { IsBegun (device_of self) → (disk.new ≡ disk.old) × IsOkAnd result (λ h. h ≡ self) }
         ensures others { KeepsOthers D.Disk J.Journal disk.old disk.new }
         ensures cause { HasCause (D.faults disk.old) (D.faults disk.new) result }
@@ -80,11 +80,11 @@ impl<J: Journal + Drop> Hand<J> {
         step: Step,
         exit: Exit,
     ) -> Result<Hand<J>, Stopped<J>>
-        requires held { Holds D.Disk J.Journal IsHeld self disk.old }
+        requires held { OwnsOver D.Disk J.Journal IsHeld self disk.old }
         requires may { Allowed (device_of self) (stored.StepFailed name.now step exit) }
         ensures moments { LeavesOneOf D.Disk J.Journal disk.old disk.new (device_of self) (applied (device_of self) (stored.StepFailed name.now step exit)) }
         ensures taken { IfOk result (λ s. device_of s ≡ applied (device_of self) (stored.StepFailed name.now step exit)) }
-        ensures held { IfOk result (λ s. Holds D.Disk J.Journal IsHeld s disk.new) }
+        ensures held { IfOk result (λ s. OwnsOver D.Disk J.Journal IsHeld s disk.new) }
         ensures others { KeepsOthers D.Disk J.Journal disk.old disk.new }
         ensures cause { HasCause (D.faults disk.old) (D.faults disk.new) result }
         ensures quiet { OnOk result (D.faults disk.new ≡ D.faults disk.old) }
@@ -96,12 +96,12 @@ impl<J: Journal + Drop> Hand<J> {
     /// Records that the deployment failed. Bootstrap steps of the set run again where one of them is to, and otherwise its
     /// items are brought up again.
     pub(crate) fn break_off<D: Disk>(self, disk: &mut D) -> Result<BrokeOff<J>, Stopped<J>>
-        requires held { Holds D.Disk J.Journal IsHeld self disk.old }
+        requires held { OwnsOver D.Disk J.Journal IsHeld self disk.old }
         requires may { CanBreakOff (device_of self) }
         ensures moments { (r : Record) → IsBreak (device_of self) r →
             LeavesOneOf D.Disk J.Journal disk.old disk.new (device_of self) (applied (device_of self) r) }
         ensures taken { (r : Record) → IsBreak (device_of self) r → IfOk result (λ s. broken_device s ≡ applied (device_of self) r) }
-        ensures held { IfOk result (λ s. Holds D.Disk J.Journal OwnsBrokenOff s disk.new) }
+        ensures held { IfOk result (λ s. OwnsOver D.Disk J.Journal OwnsBrokenOff s disk.new) }
         ensures others { KeepsOthers D.Disk J.Journal disk.old disk.new }
         ensures cause { HasCause (D.faults disk.old) (D.faults disk.new) result }
         ensures quiet { OnOk result (D.faults disk.new ≡ D.faults disk.old) }

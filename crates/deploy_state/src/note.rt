@@ -6,7 +6,7 @@ ghost use Rattle.records.specs.Stored.{Record};
 ghost use Rattle.device.specs.Lawful.{Allowed, applied};
 ghost use Rattle.device.specs.Marks.{IsMark, IsClosing};
 ghost use Rattle.device.specs.Spares.{IsSpareOf};
-ghost use Rattle.deploy_state.specs.Objects.{Holds, KeepsOthers, LeavesOneOf, OwnsJournalOn};
+ghost use Rattle.deploy_state.specs.Objects.{OwnsOver, KeepsOthers, LeavesOneOf, OwnsJournalOn};
 ghost use Rattle.deploy_state.specs.Owned.{MayMark};
 ghost use Rattle.deploy_state.specs.States.{IsHeld, OwnsIdle, device_of, idle_device};
 
@@ -49,13 +49,13 @@ impl<J: Journal + Drop> Hand<J> {
 impl<J: Journal + Drop> Hand<J> {
     /// The hand behind the record of a mark other than a close.
     pub(crate) fn step<D: Disk>(self, disk: &mut D, mark: Mark) -> Result<Hand<J>, Stopped<J>>
-        requires held { Holds D.Disk J.Journal IsHeld self disk.old }
+        requires held { OwnsOver D.Disk J.Journal IsHeld self disk.old }
         requires may { MayMark (device_of self) mark }
         requires going { ¬ (IsClosing mark) }
         ensures moments { (r : Record) → IsMark (device_of self) mark r →
             LeavesOneOf D.Disk J.Journal disk.old disk.new (device_of self) (applied (device_of self) r) }
         ensures taken { (r : Record) → IsMark (device_of self) mark r → IfOk result (λ h. device_of h ≡ applied (device_of self) r) }
-        ensures held { IfOk result (λ h. Holds D.Disk J.Journal IsHeld h disk.new) }
+        ensures held { IfOk result (λ h. OwnsOver D.Disk J.Journal IsHeld h disk.new) }
         ensures others { KeepsOthers D.Disk J.Journal disk.old disk.new }
         ensures cause { HasCause (D.faults disk.old) (D.faults disk.new) result }
         ensures quiet { OnOk result (D.faults disk.new ≡ D.faults disk.old) }
@@ -73,11 +73,11 @@ impl<J: Journal + Drop> Hand<J> {
         disk: &mut D,
         outcome: Outcome,
     ) -> Result<Idle<J>, Stopped<J>>
-        requires held { Holds D.Disk J.Journal IsHeld self disk.old }
+        requires held { OwnsOver D.Disk J.Journal IsHeld self disk.old }
         requires may { Allowed (device_of self) (stored.Closed outcome) }
         ensures moments { LeavesOneOf D.Disk J.Journal disk.old disk.new (device_of self) (applied (device_of self) (stored.Closed outcome)) }
         ensures taken { IfOk result (λ s. idle_device s ≡ applied (device_of self) (stored.Closed outcome)) }
-        ensures idle { IfOk result (λ s. Holds D.Disk J.Journal OwnsIdle s disk.new) }
+        ensures idle { IfOk result (λ s. OwnsOver D.Disk J.Journal OwnsIdle s disk.new) }
         ensures others { KeepsOthers D.Disk J.Journal disk.old disk.new }
         ensures cause { HasCause (D.faults disk.old) (D.faults disk.new) result }
         ensures quiet { OnOk result (D.faults disk.new ≡ D.faults disk.old) }

@@ -5,7 +5,7 @@ ghost use Rattle.records.specs.Stored as stored;
 ghost use Rattle.device.specs.Devices.{device_view};
 ghost use Rattle.device.specs.Lawful.{Allowed, applied};
 ghost use Rattle.deploy_state.specs.Fields.{broken_item, rolled_outcome};
-ghost use Rattle.deploy_state.specs.Objects.{Holds, KeepsOthers, LeavesOneOf};
+ghost use Rattle.deploy_state.specs.Objects.{OwnsOver, KeepsOthers, LeavesOneOf};
 ghost use Rattle.deploy_state.specs.States.{OwnsIdle, OwnsRolling, idle_device, rolling_device};
 
 use crate::names::{broken_in, outcome_in};
@@ -38,12 +38,12 @@ impl<J: Journal + Drop> Rolling<J> {
         step: Step,
         exit: Exit,
     ) -> Result<Rolling<J>, Stopped<J>>
-        requires held { Holds D.Disk J.Journal OwnsRolling self disk.old }
+        requires held { OwnsOver D.Disk J.Journal OwnsRolling self disk.old }
         requires may { Allowed (rolling_device self) (stored.StepFailed name.now step exit) }
         ensures moments { LeavesOneOf D.Disk J.Journal disk.old disk.new (rolling_device self)
             (applied (rolling_device self) (stored.StepFailed name.now step exit)) }
         ensures taken { IfOk result (λ s. rolling_device s ≡ applied (rolling_device self) (stored.StepFailed name.now step exit)) }
-        ensures held { IfOk result (λ s. Holds D.Disk J.Journal OwnsRolling s disk.new) }
+        ensures held { IfOk result (λ s. OwnsOver D.Disk J.Journal OwnsRolling s disk.new) }
         ensures others { KeepsOthers D.Disk J.Journal disk.old disk.new }
         ensures cause { HasCause (D.faults disk.old) (D.faults disk.new) result }
         ensures quiet { OnOk result (D.faults disk.new ≡ D.faults disk.old) }
@@ -56,11 +56,11 @@ impl<J: Journal + Drop> Rolling<J> {
 
     /// The deployment closes: rolled back, or not able to where an item has three failures.
     pub fn close<D: Disk>(self, disk: &mut D) -> Result<Idle<J>, Stopped<J>>
-        requires held { Holds D.Disk J.Journal OwnsRolling self disk.old }
+        requires held { OwnsOver D.Disk J.Journal OwnsRolling self disk.old }
         ensures moments { LeavesOneOf D.Disk J.Journal disk.old disk.new (rolling_device self)
             (applied (rolling_device self) (stored.Closed (rolled_outcome (rolling_device self)))) }
         ensures taken { IfOk result (λ s. idle_device s ≡ applied (rolling_device self) (stored.Closed (rolled_outcome (rolling_device self)))) }
-        ensures held { IfOk result (λ s. Holds D.Disk J.Journal OwnsIdle s disk.new) }
+        ensures held { IfOk result (λ s. OwnsOver D.Disk J.Journal OwnsIdle s disk.new) }
         ensures others { KeepsOthers D.Disk J.Journal disk.old disk.new }
         ensures cause { HasCause (D.faults disk.old) (D.faults disk.new) result }
         ensures quiet { OnOk result (D.faults disk.new ≡ D.faults disk.old) }

@@ -2,9 +2,9 @@
 ghost use Rattle.std.specs.Prelude.{◌≡◌, ◌≤◌, ◌<◌, ◌+◌, [], None, ℕ, List, IsTrue, IsErrOf, OnOk, length, take};
 ghost use Rattle.std.specs.List.{AllZip};
 ghost use Rattle.nuc_base.specs.Faults.{Rose};
-ghost use Rattle.disk_model.specs.Disk.{After, Leaves};
+ghost use Rattle.disk_model.specs.Disk.{IsAfter, HasLeft};
 ghost use Rattle.gate_log.specs.Entries.{most_file};
-ghost use Rattle.gate_log.specs.Journal.{IsBehind, Within};
+ghost use Rattle.gate_log.specs.Journal.{IsBehind, IsChangeIn};
 ghost use Rattle.gate_log.specs.Place.{place_behind};
 ghost use Rattle.gate_log.specs.Turned.{IsPut};
 ghost use Rattle.records.specs.Layout.{Spelled};
@@ -71,7 +71,7 @@ fn put_next<J: Journal, D: Disk>(
     ensures put { OnOk result (IsPut D.is_modelled D.seen J.put_there log.new disk.new (take (at + 1) (front_payloads number (device_view device.now)))) }
     ensures put_end { OnOk result (J.put_end log.new ≡ place_behind (take (at + 1) (front_payloads number (device_view device.now)))) }
     ensures moments { (payloads : List (List ℕ)) → IsBehind D.may_leave J.stands log.old disk.old payloads →
-        Leaves D.moment D.left_since disk.old disk.new (After (D.may_leave disk.old) (Within J.files (λ c. J.entries c payloads))) }
+        HasLeft D.moment D.left_since disk.old disk.new (IsAfter (D.may_leave disk.old) (IsChangeIn J.files (λ c. J.entries c payloads))) }
     ensures stays { ¬ (IsErrOf result TurnFault.Disk) → (payloads : List (List ℕ)) → IsBehind D.may_leave J.stands log.old disk.old payloads →
         IsBehind D.may_leave J.stands log.new disk.new payloads }
     ensures same { (J.end log.new ≡ J.end log.old) × (J.number log.new ≡ J.number log.old) × (J.turns log.new ≡ J.turns log.old) }
@@ -108,7 +108,7 @@ fn put_front<J: Journal, D: Disk>(
     ensures put { OnOk result (IsPut D.is_modelled D.seen J.put_there log.new disk.new (front_payloads number (device_view device.now))) }
     ensures put_end { OnOk result (J.put_end log.new ≡ front_bytes number (device_view device.now)) }
     ensures moments { (payloads : List (List ℕ)) → IsBehind D.may_leave J.stands log.old disk.old payloads →
-        Leaves D.moment D.left_since disk.old disk.new (After (D.may_leave disk.old) (Within J.files (λ c. J.entries c payloads))) }
+        HasLeft D.moment D.left_since disk.old disk.new (IsAfter (D.may_leave disk.old) (IsChangeIn J.files (λ c. J.entries c payloads))) }
     ensures stays { ¬ (IsErrOf result TurnFault.Disk) → (payloads : List (List ℕ)) → IsBehind D.may_leave J.stands log.old disk.old payloads →
         IsBehind D.may_leave J.stands log.new disk.new payloads }
     ensures same { (J.end log.new ≡ J.end log.old) × (J.number log.new ≡ J.number log.old) × (J.turns log.new ≡ J.turns log.old) }
@@ -139,8 +139,8 @@ pub(crate) fn turn<J: Journal, D: Disk>(
     ensures hand { ¬ (IsErrOf result TurnFault.Disk) → OwnsJournalOn D.Disk J.Journal log.new disk.new (device_view device.now) }
     ensures end { OnOk result (J.end log.new ≡ front_bytes (J.number log.old + 1) (device_view device.now)) }
     ensures number { OnOk result (J.number log.new ≡ J.number log.old + 1) }
-    ensures moments { Leaves D.moment D.left_since disk.old disk.new
-        (After (D.may_leave disk.old) (Within J.files (λ c. StandsFor J.entries c (device_view device.now)))) }
+    ensures moments { HasLeft D.moment D.left_since disk.old disk.new
+        (IsAfter (D.may_leave disk.old) (IsChangeIn J.files (λ c. StandsFor J.entries c (device_view device.now)))) }
     ensures others { KeepsOthers D.Disk J.Journal disk.old disk.new }
     ensures cause { IsErrOf result TurnFault.Disk → Rose (D.faults disk.old) (D.faults disk.new) }
     ensures quiet { ¬ (IsErrOf result TurnFault.Disk) → D.faults disk.new ≡ D.faults disk.old }

@@ -12,9 +12,9 @@ use Rattle.tree_core.specs.View.{view}
 use Rattle.tree_core.specs.declared.tree.Tree.{Tree}
 use Rattle.tree_core.proofs.Among.{zip_alike, zip_one}
 use Rattle.config_ops.specs.declared.update.Update.{Update}
-use Rattle.deployment_doc.specs.Lines.{text_limit, reset_in, merge_in, Merges}
+use Rattle.deployment_doc.specs.Lines.{text_limit, reset_in, merge_in, IsMergeObject}
 use Rattle.deployment_doc.specs.Named.{IsId, IsRevision, IsPolicy, IsReset, AreResets, IsMerge, IsUpdate, IsRoot, IsDocument, policy_word, inner, components}
-use Rattle.deployment_doc.specs.OneDocument.{Reads, AreSameUpdates, IsSameRoot, AreAlike}
+use Rattle.deployment_doc.specs.OneDocument.{IsDocumentOf, AreSameUpdates, IsSameRoot, AreAlike}
 use Rattle.deployment_doc.specs.Spelled.{spelled}
 use Rattle.deployment_doc.specs.declared.document.Document.{Document}
 use Rattle.deployment_doc.specs.declared.document.Root.{Root}
@@ -62,10 +62,10 @@ resets_one None a b h k = h ∙ sym k
 resets_one (Some v) a b h k = zip_one IsReset reset_one (values v) a b h k
 
 module _ (one_tree : IsOneTree) where
-  no_both : (v d : Data) (s : List ℕ) → v ≡ string s → Merges v d → v ≡ d → ⊥
+  no_both : (v d : Data) (s : List ℕ) → v ≡ string s → IsMergeObject v d → v ≡ d → ⊥
   no_both v d s text h same = let object = h.0.1 in cc (text, same, object)
 
-  merges_one : (v d e : Data) → Merges v d → Merges v e → d ≡ e
+  merges_one : (v d e : Data) → IsMergeObject v d → IsMergeObject v e → d ≡ e
   merges_one v d e h k = elim h.1 [
     | inl a ↦ elim k.1 [
       | inl b ↦ sym a ∙ b
@@ -112,6 +112,6 @@ module _ (one_tree : IsOneTree) where
     roots = zip_alike IsRoot IsSameRoot root_one (components (present (get (spelled Components) d))) a.roots b.roots h.roots k.roots;
   }
 
-  pub reads_one : (bytes : List ℕ) (a b : Document) → Reads bytes a → Reads bytes b → AreAlike a b
+  pub reads_one : (bytes : List ℕ) (a b : Document) → IsDocumentOf bytes a → IsDocumentOf bytes b → AreAlike a b
   reads_one bytes a b h k =
       document_one bytes k.0 a b (subst (λ (d : Data). IsDocument bytes d a) (one_tree bytes text_limit h.0 k.0 h.1 k.1) h.3) k.3

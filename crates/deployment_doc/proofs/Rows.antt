@@ -1,7 +1,7 @@
 -- Where the fault of some lines is that of all lines.
 use Rattle.std.proofs.Common.{◌++◌, List, ℕ, codes}
 use Rattle.serde_json.specs.Data.{Data}
-use Rattle.nuc_base.specs.Tables.{Table, AllHold, Faults, on}
+use Rattle.nuc_base.specs.Tables.{Table, AllHold, IsFaultBy, on}
 use Rattle.nuc_base.proofs.Tables.{fault_after, fault_before, all_both}
 use Rattle.tree_core.specs.Parts.{check, IsObject}
 use Rattle.deployment_doc.specs.Lines.{at_optional, at_required, label_lines, revision_lines, policies_lines, components_lines, document_lines, reset_in}
@@ -43,31 +43,31 @@ module _ (d : Data) where
   pub all_above : AllHold above_revision → AllHold revisions → AllHold policies → AllHold above_roots
   all_above above r p = all_both (above_revision ++ revisions) policies (all_both above_revision revisions above r) p
 
-  from_revision : (f : DocFault) → Faults NoMemory (above_revision ++ revisions) f → Faults NoMemory (document_lines d) f
+  from_revision : (f : DocFault) → IsFaultBy NoMemory (above_revision ++ revisions) f → IsFaultBy NoMemory (document_lines d) f
   from_revision f h = fault_before NoMemory above_roots roots f (fault_before NoMemory (above_revision ++ revisions) policies f h)
 
-  pub at_id : (f : DocFault) → IsObject d → Faults NoMemory ids f → Faults NoMemory (document_lines d) f
+  pub at_id : (f : DocFault) → IsObject d → IsFaultBy NoMemory ids f → IsFaultBy NoMemory (document_lines d) f
   at_id f o h =
       from_revision f
       (fault_before NoMemory above_revision revisions f
       (fault_before NoMemory (objects ++ ids) groups f
       (fault_after NoMemory objects ids f (o, tt) h)))
 
-  pub at_group : (f : DocFault) → IsObject d → AllHold ids → Faults NoMemory groups f → Faults NoMemory (document_lines d) f
+  pub at_group : (f : DocFault) → IsObject d → AllHold ids → IsFaultBy NoMemory groups f → IsFaultBy NoMemory (document_lines d) f
   at_group f o i h =
       from_revision f
       (fault_before NoMemory above_revision revisions f
       (fault_after NoMemory (objects ++ ids) groups f (all_both objects ids (o, tt) i) h))
 
-  pub at_revision : (f : DocFault) → AllHold above_revision → Faults NoMemory revisions f → Faults NoMemory (document_lines d) f
+  pub at_revision : (f : DocFault) → AllHold above_revision → IsFaultBy NoMemory revisions f → IsFaultBy NoMemory (document_lines d) f
   at_revision f above h = from_revision f (fault_after NoMemory above_revision revisions f above h)
 
-  pub at_policy : (f : DocFault) → AllHold above_revision → AllHold revisions → Faults NoMemory policies f → Faults NoMemory (document_lines d) f
+  pub at_policy : (f : DocFault) → AllHold above_revision → AllHold revisions → IsFaultBy NoMemory policies f → IsFaultBy NoMemory (document_lines d) f
   at_policy f above r h =
       fault_before NoMemory above_roots roots f
       (fault_after NoMemory (above_revision ++ revisions) policies f (all_both above_revision revisions above r) h)
 
-  pub at_roots : (f : DocFault) → AllHold above_roots → Faults NoMemory roots f → Faults NoMemory (document_lines d) f
+  pub at_roots : (f : DocFault) → AllHold above_roots → IsFaultBy NoMemory roots f → IsFaultBy NoMemory (document_lines d) f
   at_roots f above h = fault_after NoMemory above_roots roots f above h
 
   pub all_document : AllHold above_roots → AllHold roots → AllHold (document_lines d)
@@ -85,10 +85,10 @@ module _ (name : List ℕ) (v : Data) (f : DocFault) where
   abbrev pub merges : Table DocFault
   merges = on (merge_in v) (merge_lines name)
 
-  pub at_resets : AllHold checks → Faults NoMemory resets f → Faults NoMemory (update_lines name v) f
+  pub at_resets : AllHold checks → IsFaultBy NoMemory resets f → IsFaultBy NoMemory (update_lines name v) f
   at_resets o h = fault_before NoMemory (checks ++ resets) merges f (fault_after NoMemory checks resets f o h)
 
-  pub at_merge : AllHold checks → AllHold resets → Faults NoMemory merges f → Faults NoMemory (update_lines name v) f
+  pub at_merge : AllHold checks → AllHold resets → IsFaultBy NoMemory merges f → IsFaultBy NoMemory (update_lines name v) f
   at_merge o r h = fault_after NoMemory (checks ++ resets) merges f (all_both checks resets o r) h
 
   pub all_update : AllHold checks → AllHold resets → AllHold merges → AllHold (update_lines name v)

@@ -6,7 +6,7 @@ use Rattle.std.proofs.lemmas.List.Elements.{All-cons, All-nil}
 use Rattle.std.proofs.lemmas.Slice.Zip.{AllZip-long}
 use Rattle.serde_json.specs.Data.{Data, object, Members}
 use Rattle.serde_json.specs.Find.{get}
-use Rattle.nuc_base.specs.Tables.{AllHold, Answers, on}
+use Rattle.nuc_base.specs.Tables.{AllHold, AnswerBy, on}
 use Rattle.tree_core.specs.Parts.{present, IsObject, members, pairs_of}
 use Rattle.tree_core.specs.Regular.{IsRegular}
 use Rattle.tree_core.specs.View.{view}
@@ -69,7 +69,7 @@ roots_sound (Some v) rs r h z =
     subst (λ (w : Data). IsRegular w → length (members w) ≤ 128 → AllZip IsRoot (members w) rs → AreSound rs) (sym h.0.1) (object_sound h.0.0 rs) r h.1.0 z
 
 pub sound : (bytes : List ℕ) (d : Data) (result : Result Document DocFault) → IsRegular d
-    → Answers NoMemory (document_lines d) (IsDocument bytes d) result → IfOk result (λ document. AreSound document.roots)
+    → AnswerBy NoMemory (document_lines d) (IsDocument bytes d) result → IfOk result (λ document. AreSound document.roots)
 sound bytes d (Err f) r h = tt
 sound bytes d (Ok document) r h =
     roots_sound (present (get (spelled Components) d)) document.roots (present_regular (get (spelled Components) d) (get_regular (spelled Components) d r))

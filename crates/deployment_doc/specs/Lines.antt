@@ -72,11 +72,11 @@ reset_lines name v =
     ++ each (pointer_lines name) (values v)
 
 -- the object d is the value, or the value is its text
-abbrev pub Merges : Data → Data → Type 0
-Merges v d = IsObject d × ((v ≡ d) ⊎ ((s : List ℕ) × (v ≡ string s) × IsTreeOf s text_limit d))
+abbrev pub IsMergeObject : Data → Data → Type 0
+IsMergeObject v d = IsObject d × ((v ≡ d) ⊎ ((s : List ℕ) × (v ≡ string s) × IsTreeOf s text_limit d))
 
 abbrev pub merge_lines : List ℕ → Data → Table DocFault
-merge_lines name v = check ((d : Data) × Merges v d) (fault.BadMerge name)
+merge_lines name v = check ((d : Data) × IsMergeObject v d) (fault.BadMerge name)
 
 abbrev pub reset_in : Data → Option Data
 reset_in = either (codes "reset") (codes "RESET")

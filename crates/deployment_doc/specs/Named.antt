@@ -13,7 +13,7 @@ use Rattle.tree_core.specs.Regular.{IsRegular}
 use Rattle.tree_core.specs.View.{view}
 use Rattle.tree_core.specs.declared.tree.Tree.{Tree}
 use Rattle.config_ops.specs.declared.update.Update.{Update}
-use Rattle.deployment_doc.specs.Lines.{reset_in, merge_in, Merges}
+use Rattle.deployment_doc.specs.Lines.{reset_in, merge_in, IsMergeObject}
 use Rattle.deployment_doc.specs.Spelled.{spelled}
 use Rattle.deployment_doc.specs.declared.fault.Key.TheVariants as key
 use Rattle.deployment_doc.specs.declared.document.Document.{Document}
@@ -60,7 +60,7 @@ abbrev pub IsMerge : Option Data → Option Tree → Type 0
 IsMerge None None = ⊤
 IsMerge None (Some t) = ⊥
 IsMerge (Some v) None = ⊥
-IsMerge (Some v) (Some t) = Merges v (view t) × IsRegular (view t)
+IsMerge (Some v) (Some t) = IsMergeObject v (view t) × IsRegular (view t)
 
 pub record IsUpdateOf (v : Data) (update : Update) : Type 0 where
   pub resets : AreResets (reset_in v) update.resets

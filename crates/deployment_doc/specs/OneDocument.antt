@@ -8,8 +8,8 @@ use Rattle.deployment_doc.specs.declared.document.Document.{Document}
 use Rattle.deployment_doc.specs.declared.document.Root.{Root}
 
 -- the bytes are this document
-abbrev pub Reads : List ℕ → Document → Type 0
-Reads bytes document = ReadsDocument bytes (Ok document)
+abbrev pub IsDocumentOf : List ℕ → Document → Type 0
+IsDocumentOf bytes document = ReadsDocument bytes (Ok document)
 
 -- one update, or none: two trees of one value count as one
 abbrev pub AreSameUpdates : Option Update → Option Update → Type 0
@@ -32,4 +32,4 @@ pub record AreAlike (a b : Document) : Type 0 where
 
 -- bytes are one document at most
 abbrev pub IsOneDocument : Type 0
-IsOneDocument = (bytes : List ℕ) (a b : Document) → Reads bytes a → Reads bytes b → AreAlike a b
+IsOneDocument = (bytes : List ℕ) (a b : Document) → IsDocumentOf bytes a → IsDocumentOf bytes b → AreAlike a b

@@ -2,7 +2,7 @@ ghost use Rattle.std.specs.Prelude.{◌≡◌, Some, None, []};
 ghost use Rattle.serde_json.specs.Data.{string};
 ghost use Rattle.serde_json.specs.Find.{get};
 ghost use Rattle.hex.specs.Hex.{encode_lower};
-ghost use Rattle.nuc_base.specs.Tables.{Answers};
+ghost use Rattle.nuc_base.specs.Tables.{AnswerBy};
 ghost use Rattle.tree_core.specs.View.{view};
 ghost use Rattle.tree_core.specs.Parts.{present};
 ghost use Rattle.deployment_doc.specs.Spelled.{spelled};
@@ -18,7 +18,7 @@ use std::alloc::Global;
 use tree_core::Tree;
 
 pub(crate) fn id_of(alloc: Global, bytes: &[u8], tree: &Tree) -> Result<Label, DocFault>
-    ensures { Answers OutOfMemory
+    ensures { AnswerBy OutOfMemory
         (at_optional key.DeploymentId (view tree.now) (label_lines key.DeploymentId))
         (λ id. IsId bytes.now (present (get (spelled key.DeploymentId) (view tree.now))) id)
         result }
@@ -30,13 +30,13 @@ pub(crate) fn id_of(alloc: Global, bytes: &[u8], tree: &Tree) -> Result<Label, D
 }
 
 fn digest_label(alloc: Global, bytes: &[u8]) -> Result<Label, DocFault>
-    ensures { Answers OutOfMemory [] (IsId bytes.now None) result }
+    ensures { AnswerBy OutOfMemory [] (IsId bytes.now None) result }
 {
     hex_label(alloc, &Sha256::digest(bytes))
 }
 
 fn hex_label(alloc: Global, digest: &[u8; 32]) -> Result<Label, DocFault>
-    ensures { Answers OutOfMemory [] (λ id. id ≡ encode_lower digest.now) result }
+    ensures { AnswerBy OutOfMemory [] (λ id. id ≡ encode_lower digest.now) result }
 {
     let text = hex::encode(alloc, digest.as_slice())?;
     match Label::read(alloc, text.as_bytes()) {
@@ -47,7 +47,7 @@ fn hex_label(alloc: Global, digest: &[u8; 32]) -> Result<Label, DocFault>
 }
 
 pub(crate) fn group_of(alloc: Global, tree: &Tree) -> Result<Label, DocFault>
-    ensures { Answers OutOfMemory
+    ensures { AnswerBy OutOfMemory
         (at_required key.TargetArn (view tree.now) (label_lines key.TargetArn))
         (λ group. get (spelled key.TargetArn) (view tree.now) ≡ Some (string group))
         result }
@@ -59,7 +59,7 @@ pub(crate) fn group_of(alloc: Global, tree: &Tree) -> Result<Label, DocFault>
 }
 
 fn label_of(alloc: Global, tree: &Tree, key: Key) -> Result<Label, DocFault>
-    ensures { Answers OutOfMemory (label_lines key (view tree.now)) (λ l. view tree.now ≡ string l) result }
+    ensures { AnswerBy OutOfMemory (label_lines key (view tree.now)) (λ l. view tree.now ≡ string l) result }
 {
     let Tree::Text(text) = tree else {
         return Err(DocFault::WrongKind(key));

@@ -1,7 +1,7 @@
 ghost use Rattle.std.specs.Prelude.{◌≡◌};
 ghost use Rattle.serde_json.specs.Data.{string};
 ghost use Rattle.serde_json.specs.Find.{get};
-ghost use Rattle.nuc_base.specs.Tables.{Answers};
+ghost use Rattle.nuc_base.specs.Tables.{AnswerBy};
 ghost use Rattle.tree_core.specs.View.{view};
 ghost use Rattle.tree_core.specs.Parts.{present};
 ghost use Rattle.deployment_doc.specs.Spelled.{spelled};
@@ -18,7 +18,7 @@ use tree_core::Tree;
 const DEFAULT: Policy = Policy::Rollback;
 
 pub(crate) fn policy_of(tree: &Tree) -> Result<Policy, DocFault>
-    ensures { Answers OutOfMemory
+    ensures { AnswerBy OutOfMemory
         (at_optional key.DeploymentPolicies (view tree.now) policies_lines)
         (IsPolicy (inner (present (get (spelled key.DeploymentPolicies) (view tree.now))) (spelled key.FailureHandlingPolicy)))
         result }
@@ -30,7 +30,7 @@ pub(crate) fn policy_of(tree: &Tree) -> Result<Policy, DocFault>
 }
 
 fn policy_in(policies: &Tree) -> Result<Policy, DocFault>
-    ensures { Answers OutOfMemory (policies_lines (view policies.now))
+    ensures { AnswerBy OutOfMemory (policies_lines (view policies.now))
         (IsPolicy (present (get (spelled key.FailureHandlingPolicy) (view policies.now))))
         result }
 {
@@ -44,7 +44,7 @@ fn policy_in(policies: &Tree) -> Result<Policy, DocFault>
 }
 
 fn policy_named(policy: &Tree) -> Result<Policy, DocFault>
-    ensures { Answers OutOfMemory (policy_lines (view policy.now)) (λ p. view policy.now ≡ string (policy_word p)) result }
+    ensures { AnswerBy OutOfMemory (policy_lines (view policy.now)) (λ p. view policy.now ≡ string (policy_word p)) result }
 {
     let Tree::Text(word) = policy else {
         return Err(DocFault::WrongKind(Key::FailureHandlingPolicy));

@@ -1,5 +1,5 @@
 ghost use Rattle.std.specs.Prelude.{IfOk};
-ghost use Rattle.nuc_base.specs.Tables.{Answers};
+ghost use Rattle.nuc_base.specs.Tables.{AnswerBy};
 ghost use Rattle.tree_core.specs.View.{view};
 ghost use Rattle.tree_core.specs.Regular.{IsRegular};
 ghost use Rattle.deployment_doc.specs.Lines.{document_lines};
@@ -37,7 +37,7 @@ impl Document {
 
 fn document_of(alloc: Global, bytes: &[u8], tree: &Tree) -> Result<Document, DocFault>
     requires { IsRegular (view tree.now) }
-    ensures { Answers OutOfMemory (document_lines (view tree.now)) (λ document. IsDocument bytes.now (view tree.now) document) result }
+    ensures { AnswerBy OutOfMemory (document_lines (view tree.now)) (λ document. IsDocument bytes.now (view tree.now) document) result }
 {
     let Tree::Fields(_) = tree else {
         return Err(DocFault::WrongKind(Key::Document));

@@ -2,7 +2,7 @@
 ghost use Rattle.std.specs.Prelude.{◌≡◌};
 ghost use Rattle.serde_json.specs.Data.{number, unsigned};
 ghost use Rattle.serde_json.specs.Find.{get};
-ghost use Rattle.nuc_base.specs.Tables.{Answers};
+ghost use Rattle.nuc_base.specs.Tables.{AnswerBy};
 ghost use Rattle.tree_core.specs.View.{view};
 ghost use Rattle.tree_core.specs.Parts.{present};
 ghost use Rattle.deployment_doc.specs.Spelled.{spelled};
@@ -21,7 +21,7 @@ const GREATEST_REVISION: u64 = 9_223_372_036_854_775_807;
 const UNNUMBERED: u64 = 0;
 
 pub(crate) fn revision_of(tree: &Tree) -> Result<u64, DocFault>
-    ensures { Answers OutOfMemory
+    ensures { AnswerBy OutOfMemory
         (at_optional key.Revision (view tree.now) revision_lines)
         (IsRevision (present (get (spelled key.Revision) (view tree.now))))
         result }
@@ -33,7 +33,7 @@ pub(crate) fn revision_of(tree: &Tree) -> Result<u64, DocFault>
 }
 
 fn revision_in(revision: &Tree) -> Result<u64, DocFault>
-    ensures { Answers OutOfMemory (revision_lines (view revision.now)) (λ n. view revision.now ≡ number (unsigned n)) result }
+    ensures { AnswerBy OutOfMemory (revision_lines (view revision.now)) (λ n. view revision.now ≡ number (unsigned n)) result }
 {
     match revision.count(GREATEST_REVISION) {
         Ok(revision) => Ok(revision),

@@ -2,7 +2,7 @@ ghost use Rattle.std.specs.Prelude.{◌≡◌, Some, map};
 ghost use Rattle.std.specs.List.{AllZip};
 ghost use Rattle.serde_json.specs.Data.{string, object};
 ghost use Rattle.serde_json.specs.Find.{get};
-ghost use Rattle.nuc_base.specs.Tables.{Answers, each};
+ghost use Rattle.nuc_base.specs.Tables.{AnswerBy, each};
 ghost use Rattle.tree_core.specs.View.{view, field_view, fields_view};
 ghost use Rattle.tree_core.specs.Parts.{present, members};
 ghost use Rattle.tree_core.specs.Regular.{IsRegular};
@@ -24,7 +24,7 @@ const MOST_COMPONENTS: usize = 128;
 
 pub(crate) fn roots_of(alloc: Global, tree: &Tree) -> Result<List<Root>, DocFault>
     requires { IsRegular (view tree.now) }
-    ensures { Answers OutOfMemory
+    ensures { AnswerBy OutOfMemory
         (at_optional key.Components (view tree.now) components_lines)
         (AllZip IsRoot (components_in (present (get (spelled key.Components) (view tree.now)))))
         result }
@@ -37,7 +37,7 @@ pub(crate) fn roots_of(alloc: Global, tree: &Tree) -> Result<List<Root>, DocFaul
 
 fn roots_in(alloc: Global, components: &Tree) -> Result<List<Root>, DocFault>
     requires { IsRegular (view components.now) }
-    ensures { Answers OutOfMemory (components_lines (view components.now)) (AllZip IsRoot (members (view components.now))) result }
+    ensures { AnswerBy OutOfMemory (components_lines (view components.now)) (AllZip IsRoot (members (view components.now))) result }
 {
     let Tree::Fields(fields) = components else {
         return Err(DocFault::WrongKind(Key::Components));
@@ -50,7 +50,7 @@ fn roots_in(alloc: Global, components: &Tree) -> Result<List<Root>, DocFault>
 
 fn roots_among(alloc: Global, fields: &Vec<(Text, Tree)>) -> Result<List<Root>, DocFault>
     requires { IsRegular (object (fields_view fields.now.items)) }
-    ensures { Answers OutOfMemory
+    ensures { AnswerBy OutOfMemory
         (each component_lines (map field_view fields.now.items))
         (AllZip IsRoot (map field_view fields.now.items))
         result }
@@ -65,7 +65,7 @@ fn roots_among(alloc: Global, fields: &Vec<(Text, Tree)>) -> Result<List<Root>, 
 
 fn root_of(alloc: Global, name: &Text, component: &Tree) -> Result<Root, DocFault>
     requires { IsRegular (view component.now) }
-    ensures { Answers OutOfMemory (component_lines (name.now, view component.now)) (IsRoot (name.now, view component.now)) result }
+    ensures { AnswerBy OutOfMemory (component_lines (name.now, view component.now)) (IsRoot (name.now, view component.now)) result }
 {
     let name = match Name::read(alloc, name.as_str().as_bytes()) {
         Ok(name) => name,
@@ -85,7 +85,7 @@ fn root_of(alloc: Global, name: &Text, component: &Tree) -> Result<Root, DocFaul
 }
 
 fn version_of(alloc: Global, name: &Name, component: &Tree) -> Result<Range, DocFault>
-    ensures { Answers OutOfMemory
+    ensures { AnswerBy OutOfMemory
         (at_required key.ComponentVersion (view component.now) (range_lines name.now))
         (λ range. get (spelled key.ComponentVersion) (view component.now) ≡ Some (string range))
         result }
@@ -97,7 +97,7 @@ fn version_of(alloc: Global, name: &Name, component: &Tree) -> Result<Range, Doc
 }
 
 fn range_of(alloc: Global, name: &Name, version: &Tree) -> Result<Range, DocFault>
-    ensures { Answers OutOfMemory (range_lines name.now (view version.now)) (λ range. view version.now ≡ string range) result }
+    ensures { AnswerBy OutOfMemory (range_lines name.now (view version.now)) (λ range. view version.now ≡ string range) result }
 {
     let Tree::Text(text) = version else {
         return Err(DocFault::WrongKind(Key::ComponentVersion));

@@ -2,14 +2,14 @@ ghost use Rattle.std.specs.Prelude.{◌≡◌, ◌⊎◌, ◌↔◌, map, option
 ghost use Rattle.std.specs.List.{AllZip};
 ghost use Rattle.serde_json.specs.Data.{Data};
 ghost use Rattle.serde_json.specs.Find.{get};
-ghost use Rattle.nuc_base.specs.Tables.{Answers, each, on};
+ghost use Rattle.nuc_base.specs.Tables.{AnswerBy, each, on};
 ghost use Rattle.tree_core.specs.View.{view};
 ghost use Rattle.tree_core.specs.Parts.{present, values, IsObject};
 ghost use Rattle.tree_core.specs.Reading.{IsTreeOf};
 ghost use Rattle.tree_core.specs.Regular.{IsRegular};
 ghost use Rattle.deployment_doc.specs.Spelled.{spelled};
 ghost use Rattle.deployment_doc.specs.Lines.{text_limit, pointer_lines, reset_lines, merge_lines, update_lines, reset_in as reset_value};
-ghost use Rattle.deployment_doc.specs.Lines.{merge_in as merge_value, either as one_of, HasBoth, Merges, at_optional};
+ghost use Rattle.deployment_doc.specs.Lines.{merge_in as merge_value, either as one_of, HasBoth, IsMergeObject, at_optional};
 ghost use Rattle.deployment_doc.specs.Named.{IsUpdate, IsUpdateOf, AreResets, IsReset, IsMerge};
 ghost use Rattle.deployment_doc.specs.declared.fault.DocFault.TheVariants.{NoMemory as OutOfMemory, BadMerge};
 ghost use Rattle.deployment_doc.specs.declared.fault.Key.TheVariants as key;
@@ -28,7 +28,7 @@ pub(crate) fn update_of(
     component: &Tree,
 ) -> Result<Option<Update>, DocFault>
     requires { IsRegular (view component.now) }
-    ensures { Answers OutOfMemory
+    ensures { AnswerBy OutOfMemory
         (at_optional key.ConfigurationUpdate (view component.now) (update_lines name.now))
         (IsUpdate (present (get (spelled key.ConfigurationUpdate) (view component.now))))
         result }
@@ -44,7 +44,7 @@ pub(crate) fn update_of(
 /// `merge` or `MERGE`. A fault names the component where it is of a pointer or of the merge.
 pub fn read_update(alloc: Global, tree: &Tree, name: &Name) -> Result<Update, DocFault>
     requires { IsRegular (view tree.now) }
-    ensures { Answers OutOfMemory (update_lines name.now (view tree.now)) (IsUpdateOf (view tree.now)) result }
+    ensures { AnswerBy OutOfMemory (update_lines name.now (view tree.now)) (IsUpdateOf (view tree.now)) result }
 {
     let Tree::Fields(_) = tree else {
         return Err(DocFault::WrongKind(Key::ConfigurationUpdate));
@@ -81,7 +81,7 @@ fn has_both(tree: &Tree, small: &str, large: &str) -> bool
 }
 
 fn resets_of(alloc: Global, name: &Name, tree: &Tree) -> Result<List<Pointer>, DocFault>
-    ensures { Answers OutOfMemory (on (reset_value (view tree.now)) (reset_lines name.now)) (AreResets (reset_value (view tree.now))) result }
+    ensures { AnswerBy OutOfMemory (on (reset_value (view tree.now)) (reset_lines name.now)) (AreResets (reset_value (view tree.now))) result }
 {
     match either(tree, "reset", "RESET") {
         Some(resets) => resets_in(alloc, name, resets),
@@ -90,7 +90,7 @@ fn resets_of(alloc: Global, name: &Name, tree: &Tree) -> Result<List<Pointer>, D
 }
 
 fn resets_in(alloc: Global, name: &Name, resets: &Tree) -> Result<List<Pointer>, DocFault>
-    ensures { Answers OutOfMemory (reset_lines name.now (view resets.now)) (AllZip IsReset (values (view resets.now))) result }
+    ensures { AnswerBy OutOfMemory (reset_lines name.now (view resets.now)) (AllZip IsReset (values (view resets.now))) result }
 {
     let Tree::Items(items) = resets else {
         return Err(DocFault::WrongKind(Key::Reset));
@@ -102,7 +102,7 @@ fn resets_in(alloc: Global, name: &Name, resets: &Tree) -> Result<List<Pointer>,
 }
 
 fn resets_among(alloc: Global, name: &Name, items: &Vec<Tree>) -> Result<List<Pointer>, DocFault>
-    ensures { Answers OutOfMemory
+    ensures { AnswerBy OutOfMemory
         (each (pointer_lines name.now) (map view items.now.items))
         (AllZip IsReset (map view items.now.items))
         result }
@@ -116,7 +116,7 @@ fn resets_among(alloc: Global, name: &Name, items: &Vec<Tree>) -> Result<List<Po
 }
 
 fn reset_of(alloc: Global, name: &Name, item: &Tree) -> Result<Pointer, DocFault>
-    ensures { Answers OutOfMemory (pointer_lines name.now (view item.now)) (IsReset (view item.now)) result }
+    ensures { AnswerBy OutOfMemory (pointer_lines name.now (view item.now)) (IsReset (view item.now)) result }
 {
     let Tree::Text(text) = item else {
         return Err(DocFault::WrongKind(Key::Reset));
@@ -130,7 +130,7 @@ fn reset_of(alloc: Global, name: &Name, item: &Tree) -> Result<Pointer, DocFault
 
 fn merge_of(alloc: Global, name: &Name, tree: &Tree) -> Result<Option<Tree>, DocFault>
     requires { IsRegular (view tree.now) }
-    ensures { Answers OutOfMemory (on (merge_value (view tree.now)) (merge_lines name.now)) (IsMerge (merge_value (view tree.now))) result }
+    ensures { AnswerBy OutOfMemory (on (merge_value (view tree.now)) (merge_lines name.now)) (IsMerge (merge_value (view tree.now))) result }
 {
     match either(tree, "merge", "MERGE") {
         Some(value) => Ok(Some(merge_in(alloc, name, value)?)),
@@ -140,7 +140,7 @@ fn merge_of(alloc: Global, name: &Name, tree: &Tree) -> Result<Option<Tree>, Doc
 
 fn merge_in(alloc: Global, name: &Name, value: &Tree) -> Result<Tree, DocFault>
     requires { IsRegular (view value.now) }
-    ensures { Answers OutOfMemory (merge_lines name.now (view value.now)) (λ t. Merges (view value.now) (view t) × IsRegular (view t)) result }
+    ensures { AnswerBy OutOfMemory (merge_lines name.now (view value.now)) (λ t. IsMergeObject (view value.now) (view t) × IsRegular (view t)) result }
 {
     match value {
         Tree::Fields(_) => Ok(value.copy(alloc)?),

@@ -11,7 +11,7 @@ use Rattle.records.proofs.Layouts.{one_record}
 use Rattle.device.specs.Devices.{Device, no_device}
 use Rattle.device.specs.Lawful.{Allowed}
 use Rattle.device.specs.Fronts.{ended, stock_of, front_by, IsFrontOf}
-use Rattle.device.specs.Standing.{Takes, Plays, MeansAnew, IsTurn, IsNoTurnBehind}
+use Rattle.device.specs.Standing.{IsPayload, ArePayloads, MeansAnew, IsTurn, IsNoTurnBehind}
 use Rattle.device.proofs.Fronting.{one_front}
 
 -- the first of the payloads is a turn
@@ -24,18 +24,18 @@ turn_stays [] qs turn = absurd turn
 turn_stays (p ∷ ps) qs turn = turn
 
 -- a turn is lawful in no device
-pub no_turn_taken : (d e : Device) (p : List ℕ) → IsTurn p → Takes d p e → ⊥
+pub no_turn_taken : (d e : Device) (p : List ℕ) → IsTurn p → IsPayload d p e → ⊥
 no_turn_taken d e p turn takes =
     let same = one_record p takes.entry (Turned turn.number turn.origin turn.groups turn.items turn.closed) takes.spelled turn.spelled in
     subst (Allowed d) same takes.lawful.allowed
 
-pub no_turn_plays : (ps : List (List ℕ)) (d : Device) → BeginsWithTurn ps → Plays no_device ps d → ⊥
+pub no_turn_plays : (ps : List (List ℕ)) (d : Device) → BeginsWithTurn ps → ArePayloads no_device ps d → ⊥
 no_turn_plays [] d turn plays = turn
 no_turn_plays (p ∷ ps) d turn plays = no_turn_taken no_device plays.0 p turn plays.1
 
 -- where records play up to a payload that is no turn, no turn stands first
 pub no_turn_before : (before : List (List ℕ)) (bad : List ℕ) (behind : List (List ℕ)) (d : Device) → IsNoTurnBehind before bad →
-    BeginsWithTurn (before ++ bad ∷ behind) → Plays no_device before d → ⊥
+    BeginsWithTurn (before ++ bad ∷ behind) → ArePayloads no_device before d → ⊥
 no_turn_before [] bad behind d none turn plays = none turn
 no_turn_before (p ∷ before) bad behind d none turn plays = no_turn_taken no_device plays.0 p turn plays.1
 
@@ -126,7 +126,7 @@ same_parts (x ∷ a) (y ∷ c) b d long is =
     let head : x ≡ y = cc in
     let tail : a ++ b ≡ c ++ d = cc in
     let rest = same_parts a c b d (omega (arith, long)) tail in
-    let front = rest.0 in
+    let same = rest.0 in
     (cc, rest.1)
 
 pub same_spelled : (ps : List (List ℕ)) (rs ss : List Record) → AllZip Spelled ps rs → AllZip Spelled ps ss → rs ≡ ss

@@ -10,7 +10,7 @@ use Rattle.device.specs.declared.device.Device as code
 use Rattle.device.specs.declared.fault.ReplayFault.{ReplayFault}
 use Rattle.device.specs.declared.fault.ReplayFault.TheVariants as fault
 use Rattle.device.specs.Devices.{Device, device_view, no_device}
-use Rattle.device.specs.Rebuilt.{Begins}
+use Rattle.device.specs.Rebuilt.{MayRebuild}
 use Rattle.device.specs.Standing.{IsTurn, is_turned, IsNoTurnBehind, LacksFrontAt, BeginsAt, BegunAt, TookFront}
 use Rattle.device.proofs.Beginnings.{BeginsWithTurn, front_turns}
 use Rattle.device.proofs.Walking.{Ahead, stops_first}
@@ -97,7 +97,8 @@ begins_anew payloads a turn (Err (fault.Damaged at)) took = record {
 }
 begins_anew payloads a turn (Err fault.NoMemory) took = tt
 
-pub first_lacks : (payloads : List (List ℕ)) (a : Ahead payloads) (r : Record) → IsTurn a.first → Spelled a.first r → (Begins r → ⊥) → LacksFrontAt payloads 0
+pub first_lacks : (payloads : List (List ℕ)) (a : Ahead payloads) (r : Record) → IsTurn a.first → Spelled a.first r → (MayRebuild r → ⊥)
+    → LacksFrontAt payloads 0
 first_lacks payloads a r turn spelled bad = record {
   first = a.first;
   others = a.others;

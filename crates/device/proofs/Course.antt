@@ -7,7 +7,7 @@ use Rattle.records.specs.Stored.{Item, Plan, Record, BootBegun, BootEnded, Activ
 use Rattle.device.specs.After.{course, closing, course_after, After}
 use Rattle.device.specs.Devices.{Device, Pending}
 use Rattle.device.specs.Lawful.{applied, on_pending, close_pending, boot_ended, moved_on, has_gone_back, one_ended, goes_on, count_failure, failing_place}
-use Rattle.device.specs.Lawful.{begun, activated, rolled, turned_back, counted, Run}
+use Rattle.device.specs.Lawful.{begun, activated, rolled, sent_back, counted, Run}
 
 moved_plan : (q : Pending) → (moved_on q).plan ≡ q.plan
 moved_plan q = by (has_gone_back (one_ended q))
@@ -48,7 +48,7 @@ step d (BootEnded n e) = kept (boot_ended e) d (ended_plan e)
 step d Activating = kept activated d (λ q. refl)
 step d (StepFailed n s e) = kept (count_failure d.set n) d (counted_plan d.set n)
 step d (Failing n) = kept rolled d (λ q. refl)
-step d (FailingBack n) = kept (turned_back d.origin d.set) d (λ q. refl)
+step d (FailingBack n) = kept (sent_back d.origin d.set) d (λ q. refl)
 step d (Closed o) = closes d o d.pending refl
 step d _ = refl
 

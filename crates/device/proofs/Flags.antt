@@ -14,7 +14,7 @@ use Rattle.recipe_reader.specs.Backs.{is_back}
 use Rattle.records.specs.Stored.{Item}
 use Rattle.records.specs.declared.record.Origin.{Origin}
 use Rattle.device.specs.Backing.{TellsBackOf, TellsBack, TellBacks}
-use Rattle.device.specs.Lawful.{MayBreak, MayGoBack, next_boot, reach_of, backs_of, turned_to, turned_back, IsReadable, goes_back, item_named}
+use Rattle.device.specs.Lawful.{MayBreak, MayGoBack, next_boot, reach_of, backs_of, sent_to, sent_back, IsReadable, goes_back, item_named}
 use Rattle.device.specs.Plans.{HasSomeRecipe}
 use Rattle.device.proofs.PlanLoops.{next}
 
@@ -103,8 +103,8 @@ few_ended q few some = by q.stage some
     by stages.Backing h =
         let below = within (chosen q.back_flags (take q.reach q.plan.boots)) q.ended h in
         let short = chosen_short q.back_flags (take q.reach q.plan.boots) in
-        let front = take_short q.reach q.plan.boots in
-        omega (arith, below, short, front, few)
+        let prefix = take_short q.reach q.plan.boots in
+        omega (arith, below, short, prefix, few)
     by stages.Rolling h = absurd cc
 
 -- ---- flags that recipes tell
@@ -118,7 +118,7 @@ told_more p flags names i n b below many is same h =
     ∙ ap (λ (x : Bool). map p (take i names) ++ x ∷ []) (same ∙ ap p is)
     ∙ sym (ap (map p) (take_more names i n below) ∙ map-append p (take i names) (get_or names i n ∷ []))
 
--- the flags of a front of the names choose those that the test chooses
+-- the flags of a prefix of the names choose those that the test chooses
 pub chosen_told : (p : List ℕ → Bool) (flags : List Bool) (names : List (List ℕ)) (k : ℕ) → take (length names) flags ≡ map p names →
     chosen flags (take k names) ≡ filter p (take k names)
 chosen_told p flags names zero h = chosen_none flags
@@ -178,16 +178,16 @@ has_some f r xs b e is = (
 pub went_back : (origin : Option Origin) (o : Origin) (set : List Item) (q new : Pending) (n : List ℕ) (flags : List Bool) (names : List (List ℕ)) → origin
     ≡ Some o → names ≡ q.plan.boots → MayBreak n q
     → TellBacks o.platform set names flags true → (chosen flags (take (reach_of q) q.plan.boots) ≡ [] → ⊥) →
-    new ≡ turned_to (chosen flags (take (reach_of q) q.plan.boots)) q
-    → MayGoBack origin set n q × (new ≡ turned_back origin set q)
-went_back origin o set q new n flags names is boots may told some turned =
+    new ≡ sent_to (chosen flags (take (reach_of q) q.plan.boots)) q
+    → MayGoBack origin set n q × (new ≡ sent_back origin set q)
+went_back origin o set q new n flags names is boots may told some sent =
     let readable = subst (AllByRecursion (IsReadable o.platform set)) boots told.0 in
     let flagged = subst (λ (l : List (List ℕ)). take (length l) flags ≡ map (goes_back o.platform set) l) boots told.1 in
     let backs_are : chosen flags (take (reach_of q) q.plan.boots) ≡ backs_of o.platform set q.plan (reach_of q) =
     chosen_told (goes_back o.platform set) flags q.plan.boots (reach_of q) flagged in
     let there : backs_of o.platform set q.plan (reach_of q) ≡ [] → ⊥ = subst (λ (l : List (List ℕ)). l ≡ [] → ⊥) backs_are some in
-    subst (λ (x : Option Origin). MayGoBack x set n q × (new ≡ turned_back x set q)) (sym is)
-    ((may, (readable, there)), turned ∙ ap (λ (l : List (List ℕ)). turned_to l q) backs_are)
+    subst (λ (x : Option Origin). MayGoBack x set n q × (new ≡ sent_back x set q)) (sym is)
+    ((may, (readable, there)), sent ∙ ap (λ (l : List (List ℕ)). sent_to l q) backs_are)
 
 pub untold : (origin : Option Origin) (o : Origin) (set : List Item) (q : Pending) (n : List ℕ) (flags : List Bool) (names : List (List ℕ)) → origin
     ≡ Some o → names ≡ q.plan.boots

@@ -20,7 +20,7 @@ use Rattle.device.specs.Regularity.{IsRegularRecord}
 use Rattle.device.specs.Plans.{AreItems, AreRequirements}
 use Rattle.device.specs.Sound.{IsSound, AreGroups, AreClosed, AreItemsFor, arns, ids}
 use Rattle.device.specs.Fronts.{ended, stock_of, front_by, HasFront, IsFrontOf, IsNoFront, FrontsAreOne}
-use Rattle.device.specs.Rebuilt.{Building, device_of, Begins, BeginsAs, Comes, with_next, IsWhole, IsOrderly, IsBuilt}
+use Rattle.device.specs.Rebuilt.{Building, device_of, MayRebuild, BeginsAs, MayComeNext, with_next, IsWhole, IsOrderly, IsBuilt}
 use Rattle.device.proofs.SoundLists.{not_same, all_more, distinct_more, closed_more}
 use Rattle.device.proofs.Sounding.{none_sound}
 use Rattle.device.proofs.Sparing.{none_before, fresh}
@@ -84,7 +84,7 @@ new_closed all es e more is are =
 
 -- ---- what holds all along
 
-pub begins_orderly : (r : Record) (b : Building) → Begins r → BeginsAs r b → IsOrderly b
+pub begins_orderly : (r : Record) (b : Building) → MayRebuild r → BeginsAs r b → IsOrderly b
 begins_orderly (Turned n o groups items closed) b begins is = subst IsOrderly (sym is) (record {
   root = begins.0;
   groups = none_sound.groups;
@@ -96,7 +96,7 @@ begins_orderly (Turned n o groups items closed) b begins is = subst IsOrderly (s
 })
 begins_orderly _ b begins is = absurd begins
 
-next_orderly : (r : Record) (b : Building) → IsRegularRecord r → IsOrderly b → Comes b r → IsOrderly (with_next b r)
+next_orderly : (r : Record) (b : Building) → IsRegularRecord r → IsOrderly b → MayComeNext b r → IsOrderly (with_next b r)
 next_orderly (Grouped g) b regular are comes =
     let lt = comes.0 in
     let few = are.few_groups in
@@ -139,17 +139,17 @@ next_orderly (Ended id o) b regular are comes =
     }
 next_orderly _ b regular are comes = absurd comes
 
-pub stays_orderly : (r : Record) (old new : Building) → IsRegularRecord r → IsOrderly old → Comes old r → new ≡ with_next old r → IsOrderly new
+pub stays_orderly : (r : Record) (old new : Building) → IsRegularRecord r → IsOrderly old → MayComeNext old r → new ≡ with_next old r → IsOrderly new
 stays_orderly r old new regular are comes is = subst IsOrderly (sym is) (next_orderly r old regular are comes)
 
 -- ---- the records that were told
 
-pub begins_built : (r : Record) (b : Building) → Begins r → BeginsAs r b → IsBuilt (r ∷ []) b
+pub begins_built : (r : Record) (b : Building) → MayRebuild r → BeginsAs r b → IsBuilt (r ∷ []) b
 begins_built (Turned n o groups items closed) b begins is =
     let g : groups ≡ 0 + groups = omega arith in
     let i : items ≡ 0 + items = omega arith in
     let c : closed ≡ 0 + closed = omega arith in
-    subst (IsBuilt (Turned n o groups items closed ∷ [])) (sym is) (record { number = n; told = cc; items_later = λ lt. refl; closed_later = λ lt. refl })
+    subst (IsBuilt (Turned n o groups items closed ∷ [])) (sym is) (record { number = n; is = cc; items_later = λ lt. refl; closed_later = λ lt. refl })
 begins_built _ b begins is = absurd begins
 
 -- the records with one more are these, where counts and stock are
@@ -160,7 +160,7 @@ told_more records r turned stock more is same = ap (λ (l : List Record). l ++ r
 nothing_later : (set : List Item) (closed : List (List ℕ × Outcome)) → set ≡ [] → closed ≡ [] → map Kept set ++ map ended closed ≡ []
 nothing_later set closed no_items no_closed = ap (λ (s : List Item). map Kept s ++ map ended closed) no_items ∙ ap (map ended) no_closed
 
-next_built : (records : List Record) (b : Building) (r : Record) → IsBuilt records b → Comes b r → IsBuilt (records ++ r ∷ []) (with_next b r)
+next_built : (records : List Record) (b : Building) (r : Record) → IsBuilt records b → MayComeNext b r → IsBuilt (records ++ r ∷ []) (with_next b r)
 next_built records b (Grouped g) built comes =
     let lt = comes.0 in
     let more = length-append b.groups (g ∷ []) in
@@ -169,9 +169,9 @@ next_built records b (Grouped g) built comes =
     let no_closed = built.closed_later (omega (arith, lt)) in
     record {
       number = built.number;
-      told = told_more records (Grouped g)
+      is = told_more records (Grouped g)
           (Turned built.number b.origin (length b.groups + b.groups_to_come) (length b.set + b.items_to_come) (length b.closed + b.closed_to_come))
-          (stock_of (device_of b)) (stock_of (device_of (with_next b (Grouped g)))) built.told
+          (stock_of (device_of b)) (stock_of (device_of (with_next b (Grouped g)))) built.is
           (at_end Grouped b.groups g (map Kept b.set ++ map ended b.closed) (nothing_later b.set b.closed no_items no_closed))
           ∙ ap (λ (n : ℕ). Turned built.number b.origin n (length b.set + b.items_to_come) (length b.closed + b.closed_to_come) ∷
           stock_of (device_of (with_next b (Grouped g)))) count;
@@ -186,9 +186,9 @@ next_built records b (Kept i) built comes =
     let no_closed = built.closed_later (omega (arith, lt)) in
     record {
       number = built.number;
-      told = told_more records (Kept i)
+      is = told_more records (Kept i)
           (Turned built.number b.origin (length b.groups + b.groups_to_come) (length b.set + b.items_to_come) (length b.closed + b.closed_to_come))
-          (stock_of (device_of b)) (stock_of (device_of (with_next b (Kept i)))) built.told
+          (stock_of (device_of b)) (stock_of (device_of (with_next b (Kept i)))) built.is
           (append_assoc (map Grouped b.groups) (map Kept b.set ++ map ended b.closed) (Kept i ∷ [])
           ∙ ap (λ (l : List Record). map Grouped b.groups ++ l) (at_end Kept b.set i (map ended b.closed) (ap (map ended) no_closed)))
           ∙ ap (λ (n : ℕ). Turned built.number b.origin (length b.groups + b.groups_to_come) n (length b.closed + b.closed_to_come) ∷
@@ -204,9 +204,9 @@ next_built records b (Ended id o) built comes =
     let count : length b.closed + b.closed_to_come ≡ length (b.closed ++ (id, o) ∷ []) + (b.closed_to_come - 1) = omega (arith, lt, more) in
     record {
       number = built.number;
-      told = told_more records (Ended id o)
+      is = told_more records (Ended id o)
           (Turned built.number b.origin (length b.groups + b.groups_to_come) (length b.set + b.items_to_come) (length b.closed + b.closed_to_come))
-          (stock_of (device_of b)) (stock_of (device_of (with_next b (Ended id o)))) built.told
+          (stock_of (device_of b)) (stock_of (device_of (with_next b (Ended id o)))) built.is
           (append_assoc (map Grouped b.groups) (map Kept b.set ++ map ended b.closed) (Ended id o ∷ [])
           ∙ ap (λ (l : List Record). map Grouped b.groups ++ l)
           (append_assoc (map Kept b.set) (map ended b.closed) (Ended id o ∷ []) ∙ ap (λ (l : List Record). map Kept b.set ++ l)
@@ -218,7 +218,7 @@ next_built records b (Ended id o) built comes =
     }
 next_built records b _ built comes = absurd comes
 
-pub built_more : (records : List Record) (r : Record) (old new : Building) → IsBuilt records old → Comes old r → new ≡ with_next old r →
+pub built_more : (records : List Record) (r : Record) (old new : Building) → IsBuilt records old → MayComeNext old r → new ≡ with_next old r →
     IsBuilt (records ++ r ∷ []) new
 built_more records r old new built comes is = subst (IsBuilt (records ++ r ∷ [])) (sym is) (next_built records old r built comes)
 
@@ -241,7 +241,7 @@ agrees records rest b d built front = by d.origin refl front.has.origin front.is
     by (Some o) is some same =
         let whole : Turned built.number b.origin (length b.groups + b.groups_to_come) (length b.set + b.items_to_come) (length b.closed + b.closed_to_come) ∷
         (stock_of (device_of b) ++ rest)
-        ≡ Turned front.number o (length d.groups) (length d.set) (length d.closed) ∷ stock_of d = sym (ap (λ (l : List Record). l ++ rest) built.told) ∙ same in
+        ≡ Turned front.number o (length d.groups) (length d.set) (length d.closed) ∷ stock_of d = sym (ap (λ (l : List Record). l ++ rest) built.is) ∙ same in
         let origin : o ≡ b.origin = cc in
         let stock : stock_of d ≡ stock_of (device_of b) ++ rest = cc in
         record {
@@ -305,32 +305,32 @@ module _ (b : Building) (d : Device) (rest : List Record) (a : Agrees b d rest) 
       alike ended one_ended b.closed d.closed [] rest (omega (arith, count, no_more)) (items_came none nothing).1
 
 -- the record that stands next in a front comes
-pub comes : (records rest : List Record) (r : Record) (b : Building) (d : Device) → IsBuilt records b → IsFrontOf (records ++ r ∷ rest) d → Comes b r
+pub comes : (records rest : List Record) (r : Record) (b : Building) (d : Device) → IsBuilt records b → IsFrontOf (records ++ r ∷ rest) d → MayComeNext b r
 comes records rest r b d built front =
     elim (none_or_some b.groups_to_come) [
       | inr lt ↦ (
           let next = next_group b d (r ∷ rest) a lt (built.items_later lt) (built.closed_later (omega (arith, lt))) in
           let is : r ≡ Grouped next.element = let e = next.rest in cc in
           let new = new_group d.groups b.groups next.element next.more next.split a.has.sound.groups in
-          subst (Comes b) (sym is) (lt, new.0, new.1))
+          subst (MayComeNext b) (sym is) (lt, new.0, new.1))
       | inl none ↦ behind_groups none (none_or_some b.items_to_come)
     ]
   where
     a : Agrees b d (r ∷ rest)
     a = agrees records (r ∷ rest) b d built front
 
-    behind_items : b.groups_to_come ≡ 0 → b.items_to_come ≡ 0 → (b.closed_to_come ≡ 0) ⊎ (0 < b.closed_to_come) → Comes b r
+    behind_items : b.groups_to_come ≡ 0 → b.items_to_come ≡ 0 → (b.closed_to_come ≡ 0) ⊎ (0 < b.closed_to_come) → MayComeNext b r
     behind_items none nothing (inr lt) =
         let next = next_closed b d (r ∷ rest) a none nothing lt in
         let is : r ≡ ended next.element = let e = next.rest in cc in
-        subst (Comes b) (sym is) (none, nothing, lt, new_closed d.closed b.closed next.element next.more next.split a.has.sound.closed)
+        subst (MayComeNext b) (sym is) (none, nothing, lt, new_closed d.closed b.closed next.element next.more next.split a.has.sound.closed)
     behind_items none nothing (inl no_more) = let e = (all_came b d (r ∷ rest) a none nothing no_more).1 in absurd cc
 
-    behind_groups : b.groups_to_come ≡ 0 → (b.items_to_come ≡ 0) ⊎ (0 < b.items_to_come) → Comes b r
+    behind_groups : b.groups_to_come ≡ 0 → (b.items_to_come ≡ 0) ⊎ (0 < b.items_to_come) → MayComeNext b r
     behind_groups none (inr lt) =
         let next = next_item b d (r ∷ rest) a none lt (built.closed_later (omega (arith, lt))) in
         let is : r ≡ Kept next.element = let e = next.rest in cc in
-        subst (Comes b) (sym is) (none, lt)
+        subst (MayComeNext b) (sym is) (none, lt)
     behind_groups none (inl nothing) = behind_items none nothing (none_or_some b.closed_to_come)
 
 -- ---- the end
@@ -400,7 +400,7 @@ whole_front records b are whole built =
     record {
       has = record { origin = refl; idle = refl; sound = whole_sound b are whole };
       number = built.number;
-      is = built.told
+      is = built.is
           ∙ ap (λ (n : ℕ). Turned built.number b.origin n (length b.set + b.items_to_come) (length b.closed + b.closed_to_come) ∷ stock_of (device_of b)) g
           ∙ ap (λ (n : ℕ). Turned built.number b.origin (length b.groups) n (length b.closed + b.closed_to_come) ∷ stock_of (device_of b)) i
           ∙ ap (λ (n : ℕ). Turned built.number b.origin (length b.groups) (length b.set) n ∷ stock_of (device_of b)) c;
@@ -419,14 +419,14 @@ few_items : (o : Option Origin) (items : List Item) → AreItemsFor o items → 
 few_items None items are = let none = ap length are in omega (arith, none)
 few_items (Some o) items are = are.few
 
-pub front_begins : (r : Record) (rest : List Record) (d : Device) → IsFrontOf (r ∷ rest) d → Begins r
+pub front_begins : (r : Record) (rest : List Record) (d : Device) → IsFrontOf (r ∷ rest) d → MayRebuild r
 front_begins r rest d front = by d.origin front.has.origin front.is front.has.sound.root
   where
-    by : (o : Option Origin) → IsSome o → r ∷ rest ≡ front_by front.number d o → IfSome o (λ x. length x.root ≤ most_root) → Begins r
+    by : (o : Option Origin) → IsSome o → r ∷ rest ≡ front_by front.number d o → IfSome o (λ x. length x.root ≤ most_root) → MayRebuild r
     by None some is root = absurd cc
     by (Some o) some is root =
         let first : r ≡ Turned front.number o (length d.groups) (length d.set) (length d.closed) = cc in
-        subst Begins (sym first) (root, front.has.sound.groups.few, few_items d.origin d.set front.has.sound.set, front.has.sound.closed.few)
+        subst MayRebuild (sym first) (root, front.has.sound.groups.few, few_items d.origin d.set front.has.sound.set, front.has.sound.closed.few)
 
 -- ---- one device
 
@@ -443,7 +443,7 @@ one_front records d e x y = by d.origin refl x.has.origin x.is
         in
         let built : IsBuilt records b = record {
           number = x.number;
-          told = cc;
+          is = cc;
           items_later = λ lt. absurd (omega (arith, lt));
           closed_later =
               λ lt. absurd (omega (arith, lt));

@@ -19,7 +19,8 @@ use Rattle.device.specs.declared.fault.ReplayFault.TheVariants as fault
 use Rattle.device.specs.Devices.{Device, Pending, no_device, device_view, pending_view}
 use Rattle.records.specs.declared.record.Origin.{Origin}
 use Rattle.device.specs.Lawful.{Allowed, applied, MayAccept, MayBegin, MayEnd, MayActivate, MayFail, MayBreak, MayGoBack, MayClose}
-use Rattle.device.specs.Standing.{Takes, Plays, Means, IsNoTurnBehind, SpellsNoPlan, IsBehindAccepted, IsBadAt, LacksRoomAt, IsDamagedAt, Room, Replayed}
+use Rattle.device.specs.Standing.{IsPayload, ArePayloads, IsMeant, IsNoTurnBehind, SpellsNoPlan}
+use Rattle.device.specs.Standing.{IsBehindAccepted, IsBadAt, LacksRoomAt, IsDamagedAt, HasSpace, Replayed}
 use Rattle.device.specs.Standing.{TookEntry, BeginsAt, BegunAt}
 use Rattle.device.specs.Limits.{room_of_plan}
 
@@ -30,7 +31,7 @@ pub record Reached (payloads : List (List ℕ)) (end at behind : ℕ) (d : Devic
   pub split : payloads ≡ done ++ rest
   pub at_is : at ≡ place_behind done
   pub end_is : end ≡ place_behind payloads
-  pub means : Means done d
+  pub means : IsMeant done d
   pub no_turn : (p : List ℕ) (ps : List (List ℕ)) → rest ≡ p ∷ ps → IsNoTurnBehind done p
   pub behind_is : IfSome d.pending (λ q. IsBehindAccepted done behind)
 
@@ -81,11 +82,11 @@ entry_at stands log image payloads end at behind d r n on = record {
       r.at_is;
 }
 
-plays_more : (ps : List (List ℕ)) (p : List ℕ) (d c e : Device) → Plays d ps c → Takes c p e → Plays d (ps ++ p ∷ []) e
-plays_more [] p d c e h t = (e, subst (λ x. Takes x p e) h t, refl)
+plays_more : (ps : List (List ℕ)) (p : List ℕ) (d c e : Device) → ArePayloads d ps c → IsPayload c p e → ArePayloads d (ps ++ p ∷ []) e
+plays_more [] p d c e h t = (e, subst (λ x. IsPayload x p e) h t, refl)
 plays_more (q ∷ ps) p d c e h t = (h.0, h.1, plays_more ps p h.0 c e h.2 t)
 
-means_more : (ps : List (List ℕ)) (p : List ℕ) (c e : Device) → Means ps c → Takes c p e → Means (ps ++ p ∷ []) e
+means_more : (ps : List (List ℕ)) (p : List ℕ) (c e : Device) → IsMeant ps c → IsPayload c p e → IsMeant (ps ++ p ∷ []) e
 means_more ps p c e (inl plays) t = inl (plays_more ps p no_device c e plays t)
 means_more ps p c e (inr anew) t = inr (record {
   front = anew.front;
@@ -170,7 +171,7 @@ later_behind : (done : List (List ℕ)) (p : List ℕ) (behind : ℕ) (d : Devic
 later_behind done p behind d (Accepted plan) some spelled allowed is = absurd (some (may_accept_alone d plan d.origin allowed))
 later_behind done p behind d r some spelled allowed is = still_behind done p behind (spells_none p r spelled refl) is
 
-behind_goes_on : (done : List (List ℕ)) (p : List ℕ) (behind to : ℕ) (d c : Device) → Takes d p c → to ≡ place_behind (done ++ p ∷ []) →
+behind_goes_on : (done : List (List ℕ)) (p : List ℕ) (behind to : ℕ) (d c : Device) → IsPayload d p c → to ≡ place_behind (done ++ p ∷ []) →
     IfSome d.pending (λ q. IsBehindAccepted done behind)
     → IfSome c.pending (λ q. IsBehindAccepted (done ++ p ∷ []) (if is_some d.pending then behind else to))
 behind_goes_on done p behind to d c t is h =
@@ -186,7 +187,7 @@ behind_goes_on done p behind to d c t is h =
 -- ---- the walk
 
 goes_on : (payloads : List (List ℕ)) (end at behind to : ℕ) (d c : Device) (r : Reached payloads end at behind d) (n : Next payloads r.done)
-    → to ≡ at + 5 + length n.first → Takes d n.first c → Reached payloads end to (if is_some d.pending then behind else to) c
+    → to ≡ at + 5 + length n.first → IsPayload d n.first c → Reached payloads end to (if is_some d.pending then behind else to) c
 goes_on payloads end at behind to d c r n to_is t =
     let place : to ≡ place_behind (r.done ++ n.first ∷ []) = omega (arith, to_is, r.at_is, place_more r.done n.first) in
     record {
@@ -201,7 +202,7 @@ goes_on payloads end at behind to d c r n to_is t =
     }
 
 is_bad : (payloads : List (List ℕ)) (end at behind : ℕ) (d : Device) (r : Reached payloads end at behind d) (n : Next payloads r.done)
-    → ((c : Device) → Takes d n.first c → ⊥) → IsBadAt payloads at
+    → ((c : Device) → IsPayload d n.first c → ⊥) → IsBadAt payloads at
 is_bad payloads end at behind d r n refused = record {
   before = r.done;
   bad = n.first;
@@ -216,7 +217,7 @@ is_bad payloads end at behind d r n refused = record {
 
 -- the walk is at the end
 record Ended (payloads : List (List ℕ)) (behind : ℕ) (d : Device) : Type 0 where
-  means : Means payloads d
+  means : IsMeant payloads d
   behind_is : IfSome d.pending (λ q. IsBehindAccepted payloads behind)
 
 ended : (payloads : List (List ℕ)) (end at behind : ℕ) (d : Device) → Reached payloads end at behind d → end ≤ at → Ended payloads behind d
@@ -226,14 +227,14 @@ ended payloads end at behind d r le = by r.rest r.split
     by [] split =
         let all = sym (split ∙ append-nil r.done) in
         record {
-          means = subst (λ ps. Means ps d) all r.means;
+          means = subst (λ ps. IsMeant ps d) all r.means;
           behind_is = subst (λ ps. IfSome d.pending (λ q. IsBehindAccepted ps behind)) all r.behind_is;
         }
     by (p ∷ ps) split = let same = ap place_behind split in absurd (omega (arith, le, r.at_is, r.end_is, same, place_on r.done (p ∷ ps)))
 
 is_all : (payloads : List (List ℕ)) (end at behind : ℕ) (d : Device) → Reached payloads end at behind d → end ≤ at →
     (IsSome d.pending → behind + room_of_plan ≤ most_file)
-    → Means payloads d × Room payloads d
+    → IsMeant payloads d × HasSpace payloads d
 is_all payloads end at behind d r le room = let e = ended payloads end at behind d r le in (e.means, by d.pending e.behind_is room)
   where
     by : (o : Option Pending) → IfSome o (λ q. IsBehindAccepted payloads behind) → (IsSome o → behind + room_of_plan ≤ most_file) →
@@ -259,14 +260,14 @@ shown (Some q) = refl
 
 pub first_on : (payloads : List (List ℕ)) (end at behind to : ℕ) (device : code.Device) (c : Device) (r : Reached payloads end at behind (device_view device))
     (n : Next payloads r.done)
-    → to ≡ at + 5 + length n.first → Takes (device_view device) n.first c → is_some device.pending ≡ false → Reached payloads end to to c
+    → to ≡ at + 5 + length n.first → IsPayload (device_view device) n.first c → is_some device.pending ≡ false → Reached payloads end to to c
 first_on payloads end at behind to device c r n to_is t none =
     subst (λ (b : Bool). Reached payloads end to (if b then behind else to) c) (shown device.pending ∙ none)
     (goes_on payloads end at behind to (device_view device) c r n to_is t)
 
 pub later_on : (payloads : List (List ℕ)) (end at behind to : ℕ) (device : code.Device) (c : Device) (r : Reached payloads end at behind (device_view device))
     (n : Next payloads r.done)
-    → to ≡ at + 5 + length n.first → Takes (device_view device) n.first c → is_some device.pending ≡ true → Reached payloads end to behind c
+    → to ≡ at + 5 + length n.first → IsPayload (device_view device) n.first c → is_some device.pending ≡ true → Reached payloads end to behind c
 later_on payloads end at behind to device c r n to_is t some =
     subst (λ (b : Bool). Reached payloads end to (if b then behind else to) c) (shown device.pending ∙ some)
     (goes_on payloads end at behind to (device_view device) c r n to_is t)
@@ -304,7 +305,8 @@ room_lacks payloads end at behind device r le lacks =
     inr (inl (lacks_room payloads end at behind (device_view device) r le (shown device.pending ∙ h.0) (ltb-true most_file (behind + room_of_plan) h.1)))
 
 pub has_room : (payloads : List (List ℕ)) (end at behind : ℕ) (device : code.Device) → Reached payloads end at behind (device_view device) → end ≤ at
-    → (is_some device.pending && nat_lt most_file (behind + room_of_plan)) ≡ false → Means payloads (device_view device) × Room payloads (device_view device)
+    → (is_some device.pending && nat_lt most_file (behind + room_of_plan)) ≡ false → IsMeant payloads (device_view device)
+    × HasSpace payloads (device_view device)
 has_room payloads end at behind device r le room =
     is_all payloads end at behind (device_view device) r le
     (λ some. ltb-false most_file (behind + room_of_plan) (first_true (is_some device.pending) (nat_lt most_file (behind + room_of_plan)) room

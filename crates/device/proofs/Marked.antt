@@ -9,7 +9,7 @@ use Rattle.nuc_base.specs.declared.kinds.Outcome.{Outcome}
 use Rattle.device.specs.declared.mark.Mark.{Mark}
 use Rattle.device.specs.declared.mark.Mark.TheVariants as marks
 use Rattle.device.specs.Devices.{Device, Pending, chosen}
-use Rattle.device.specs.Lawful.{Allowed, applied, backs, counted, failing_place, goes_back, place, reach_of, running, turned_to, MayCount, MayGoBack}
+use Rattle.device.specs.Lawful.{Allowed, applied, backs, counted, failing_place, goes_back, place, reach_of, running, sent_to, MayCount, MayGoBack}
 use Rattle.device.specs.Marks.{IsMark, IsMarkOf, IsClosing, CanMark, marked}
 use Rattle.device.specs.Spares.{FlagBacks}
 use Rattle.device.proofs.FirstPlaces.{place_has, some_is}
@@ -52,7 +52,7 @@ marked_is d q (marks.StepFailed k s e) r flags other spared mark allowed =
 marked_is d q marks.Failing r flags other spared mark allowed = ap (applied (record d { pending = Some q })) (sym mark.2)
 marked_is d q marks.FailingBack r flags other spared mark allowed =
     let may = subst (λ (r : Record). Allowed (record d { pending = Some q }) r) mark.2 allowed in
-    ap (λ (bs : List (List ℕ)). record d { pending = Some (turned_to bs q) }) (spared_backs d.origin d.set q mark.0 flags spared may) ∙ ap
+    ap (λ (bs : List (List ℕ)). record d { pending = Some (sent_to bs q) }) (spared_backs d.origin d.set q mark.0 flags spared may) ∙ ap
     (applied (record d { pending = Some q })) (sym mark.2)
 marked_is d q (marks.Closed o) r flags other spared mark allowed = absurd (other tt)
 

@@ -10,7 +10,7 @@ use Rattle.device.specs.Grouped.{with_group}
 use Rattle.device.specs.Plans.{IsSupplied}
 use Rattle.std.specs.List.{AllByRecursion}
 use Rattle.device.specs.Lawful.{Allowed, MayAccept, applied, Lawful, Run, on_pending, close_pending, takes_plan, boot_ended, count_failure, begun, activated}
-use Rattle.device.specs.Lawful.{rolled, turned_back}
+use Rattle.device.specs.Lawful.{rolled, sent_back}
 use Rattle.device.specs.Met.{Met, GroupsAreMet, ItemsAreMet, IsPlanMet, BringsMet, BringMet}
 use Rattle.device.proofs.Course.{ended_plan, counted_plan}
 
@@ -81,7 +81,7 @@ step d (BootEnded n e) met allowed = both (staged (boot_ended e) d (ended_plan e
 step d Activating met allowed = both (staged activated d (λ q. refl) met)
 step d (StepFailed n s e) met allowed = both (staged (count_failure d.set n) d (counted_plan d.set n) met)
 step d (Failing n) met allowed = both (staged rolled d (λ q. refl) met)
-step d (FailingBack n) met allowed = both (staged (turned_back d.origin d.set) d (λ q. refl) met)
+step d (FailingBack n) met allowed = both (staged (sent_back d.origin d.set) d (λ q. refl) met)
 step d (Closed o) met allowed = both (closed d o d.pending refl met)
 step d _ met allowed = absurd allowed
 

@@ -6,7 +6,7 @@ use Rattle.records.specs.declared.record.Origin.{Origin}
 use Rattle.records.specs.Stored.{Record, Genesis, Closed}
 use Rattle.device.specs.Devices.{Device, Pending, no_device}
 use Rattle.device.specs.Lawful.{Allowed, applied, close_pending}
-use Rattle.device.specs.Standing.{Plays, Means}
+use Rattle.device.specs.Standing.{ArePayloads, IsMeant}
 
 close_origin : (o : Outcome) (d : Device) (q : Option Pending) → (close_pending o d q).origin ≡ d.origin
 close_origin o d None = refl
@@ -17,7 +17,7 @@ keeps_origin d (Genesis g) o is allowed = let none : d.origin ≡ None = allowed
 keeps_origin d (Closed c) o is allowed = close_origin c d d.pending ∙ is
 keeps_origin d _ o is allowed = is
 
-plays_on : (d : Device) (ps : List (List ℕ)) (e : Device) (o : Origin) → d.origin ≡ Some o → Plays d ps e → e.origin ≡ Some o
+plays_on : (d : Device) (ps : List (List ℕ)) (e : Device) (o : Origin) → d.origin ≡ Some o → ArePayloads d ps e → e.origin ≡ Some o
 plays_on d [] e o is plays = ap (λ (x : Device). x.origin) plays ∙ is
 plays_on d (p ∷ ps) e o is plays =
     let step = plays.1 in
@@ -32,7 +32,7 @@ has_one None some = absurd cc
 has_one (Some x) some = (x, refl)
 
 -- where there is an entry
-pub has_origin : (ps : List (List ℕ)) (d : Device) → (ps ≡ [] → ⊥) → Means ps d → (o : Origin) × (d.origin ≡ Some o)
+pub has_origin : (ps : List (List ℕ)) (d : Device) → (ps ≡ [] → ⊥) → IsMeant ps d → (o : Origin) × (d.origin ≡ Some o)
 has_origin [] d some (inl plays) = absurd (some refl)
 has_origin (p ∷ ps) d some (inl plays) =
     let step = plays.1 in

@@ -4,15 +4,15 @@ use Rattle.std.proofs.Common.{append_assoc}
 use Rattle.std.specs.List.{All, AllByRecursion, AllZip, Contains, HoldsAt}
 use Rattle.std.proofs.lemmas.List.{append-nil, drop_all, get_or-map}
 use Rattle.std.proofs.lemmas.List.Elements.{All-nil, All-cons, All-append, Contains-append_left, Contains-append_right, Contains-append_cases}
-use Rattle.nuc_base.specs.Leads.{Leads, direct, through}
+use Rattle.nuc_base.specs.Leads.{HasPath, direct, through}
 use Rattle.nuc_base.proofs.Lists.{in_nil, in_cons, in_here, in_there}
 use Rattle.dep_order.specs.declared.Need.{Need}
 use Rattle.dep_order.specs.declared.Edges.{Edges}
-use Rattle.dep_order.specs.Orders.{Needs, IsAcyclic}
+use Rattle.dep_order.specs.Orders.{HasNeed, IsAcyclic}
 use Rattle.recipe_reader.specs.declared.recipe.Dependency.{Dependency}
 use Rattle.recipe_reader.specs.declared.recipe.Recipe.{Recipe}
 use Rattle.records.specs.declared.record.Item as code
-use Rattle.device.specs.Plans.{Rise}
+use Rattle.device.specs.Plans.{AreRising}
 use Rattle.device.specs.PlanNeeds.{names_of, StandsAt, IsMetIn, AreMet, IsNeedOf, AddsNeeds, AreNeeds, NeedsIn, FitsTogether}
 use Rattle.device.proofs.PlanLoops.{Goes, goes_start, goes_more, goes_bad, goes_end, next}
 use Rattle.device.proofs.PlanPlaces.{element, one_place, met_in, stands_met}
@@ -181,7 +181,7 @@ rows_end items all xs i needs past left =
 -- ---- ways along needs
 
 module _ (items : List code.Item) (recipes : List Recipe) (needs : List Need) (count : ℕ)
-    (rise : Rise (names_of items)) (long : length recipes ≡ length items) (are : AreNeeds items 0 recipes needs) where
+    (rise : AreRising (names_of items)) (long : length recipes ≡ length items) (are : AreNeeds items 0 recipes needs) where
   abbrev pub edges : Edges
   edges = record { nodes = count; needs = needs }
 
@@ -197,7 +197,7 @@ module _ (items : List code.Item) (recipes : List Recipe) (needs : List Need) (c
       let x = (element items i s.below).0 in
       sym (s.named x) ∙ t.named x
 
-  step_names : (i j : ℕ) → Needs edges i j → NeedsIn items recipes (name i) (name j)
+  step_names : (i j : ℕ) → HasNeed edges i j → NeedsIn items recipes (name i) (name j)
   step_names i j n =
       let s = source items 0 recipes needs n.by are n.is in
       let below = s.below in
@@ -214,11 +214,11 @@ module _ (items : List code.Item) (recipes : List Recipe) (needs : List Need) (c
         to = one_name s.dependency.name (name n.by.to) n.by.to there (named n.by.to there.below) ∙ same;
       }
 
-  leads_names : {i j : ℕ} → Leads (Needs edges) i j → Leads (NeedsIn items recipes) (name i) (name j)
+  leads_names : {i j : ℕ} → HasPath (HasNeed edges) i j → HasPath (NeedsIn items recipes) (name i) (name j)
   leads_names (direct {a = x} {b = y} r) = direct (step_names x y r)
   leads_names (through {a = x} {b = y} {c = z} r m) = through (step_names x y r) (leads_names m)
 
-  step_places : (a b : List ℕ) (i : ℕ) → NeedsIn items recipes a b → StandsAt items a i → (j : ℕ) × Needs edges i j × StandsAt items b j
+  step_places : (a b : List ℕ) (i : ℕ) → NeedsIn items recipes a b → StandsAt items a i → (j : ℕ) × HasNeed edges i j × StandsAt items b j
   step_places a b i n s =
       let same = one_place items a n.at i rise n.stands s in
       let below = n.stands.below in
@@ -229,15 +229,15 @@ module _ (items : List code.Item) (recipes : List Recipe) (needs : List Need) (c
         subst (λ c. StandsAt items c t.0.to) n.to (stands_met items n.dependency t.0.to t.2.to),
       )
 
-  leads_places : {a b : List ℕ} → Leads (NeedsIn items recipes) a b → (i j : ℕ) → StandsAt items a i → StandsAt items b j → Leads (Needs edges) i j
+  leads_places : {a b : List ℕ} → HasPath (NeedsIn items recipes) a b → (i j : ℕ) → StandsAt items a i → StandsAt items b j → HasPath (HasNeed edges) i j
   leads_places (direct {a = a} {b = b} r) i j s t =
       let p = step_places a b i r s in
-      direct (subst (λ k. Needs edges i k) (one_place items b p.0 j rise p.2 t) p.1)
+      direct (subst (λ k. HasNeed edges i k) (one_place items b p.0 j rise p.2 t) p.1)
   leads_places (through {a = a} {b = b} {c = c} r m) i j s t =
       let p = step_places a b i r s in
       through p.1 (leads_places m p.0 j p.2 t)
 
-  first_stands : {a b : List ℕ} → Leads (NeedsIn items recipes) a b → (i : ℕ) × StandsAt items a i
+  first_stands : {a b : List ℕ} → HasPath (NeedsIn items recipes) a b → (i : ℕ) × StandsAt items a i
   first_stands (direct {a = a} {b = b} r) = (r.at, r.stands)
   first_stands (through {a = a} {b = b} {c = c} r m) = (r.at, r.stands)
 

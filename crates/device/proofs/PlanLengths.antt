@@ -16,7 +16,7 @@ use Rattle.tree_core.specs.Parts.{present, values, optional}
 use Rattle.recipe_reader.specs.Artifacts.{IsArtifact, AreArtifacts, artifacts_lines}
 use Rattle.recipe_reader.specs.Dependencies.{dependencies_lines}
 use Rattle.recipe_reader.specs.Lifecycles.{lifecycle_lines}
-use Rattle.recipe_reader.specs.OneRecipe.{Reads}
+use Rattle.recipe_reader.specs.OneRecipe.{IsRecipeFor}
 use Rattle.recipe_reader.specs.Platforms.{manifests_lines}
 use Rattle.recipe_reader.specs.Recipes.{head_lines, config_lines, chosen_lines, part_lines, inner, manifest_of}
 use Rattle.recipe_reader.specs.Spelled.{spelled}
@@ -51,7 +51,7 @@ few_at None xs h a = rw a (omega arith)
 few_at (Some v) xs h a = few_in (present (get (spelled Artifacts) v)) xs
     (hold_last (optional (spelled Lifecycle) v lifecycle_lines) (optional (spelled Artifacts) v artifacts_lines) h) a
 
-pub few_files : (bytes : List ℕ) (platform : Platform) (recipe : Recipe) → Reads bytes platform recipe → length recipe.artifacts ≤ 64
+pub few_files : (bytes : List ℕ) (platform : Platform) (recipe : Recipe) → IsRecipeFor bytes platform recipe → length recipe.artifacts ≤ 64
 few_files bytes platform recipe r =
     let d = r.0 in
     let parts = hold_last ((head_lines d ++ optional (spelled ComponentConfiguration) d config_lines) ++ optional (spelled ComponentDependencies) d

@@ -14,11 +14,11 @@ use Rattle.std.proofs.lemmas.Bool.{cases_lt, false≢true}
 use Rattle.std.proofs.lemmas.List.{get_or-map, length-map}
 use Rattle.std.proofs.lemmas.List.Sorted.{IsNonDecreasingBy-from_all_adjacent}
 use Rattle.std.proofs.lemmas.Map.Keys.{Less-from_sorted, sorted_from_all_adjacent}
-use Rattle.npm_ranges.specs.Ranges.{Meets}
+use Rattle.npm_ranges.specs.Ranges.{IsInRange}
 use Rattle.recipe_reader.specs.declared.recipe.Dependency.{Dependency}
 use Rattle.records.specs.Stored.{Item, item_view}
 use Rattle.records.specs.declared.record.Item as code
-use Rattle.device.specs.Plans.{Rise}
+use Rattle.device.specs.Plans.{AreRising}
 use Rattle.device.specs.PlanNeeds.{names_of, StandsAt, IsMetAt, IsMetIn}
 use Rattle.device.proofs.PlanLoops.{yes, no}
 
@@ -69,7 +69,7 @@ name_at : (items : List code.Item) (k : ℕ) (d : code.Item) → k < length item
 name_at items k d below = get_or-map (λ (item : code.Item). item.name) items k d d.name below
 
 -- the items lie in the order in which a search for the name looks at them
-pub searched : (items : List code.Item) (n : List ℕ) → Rise (names_of items) →
+pub searched : (items : List code.Item) (n : List ℕ) → AreRising (names_of items) →
     IsNonDecreasingBy (λ (item : code.Item). ordering_index (slice_cmp nat_cmp item.name n)) items
 searched items n rise = IsNonDecreasingBy-from_all_adjacent (λ (item : code.Item). ordering_index (slice_cmp nat_cmp item.name n)) items
     (λ k d h.
@@ -137,8 +137,8 @@ less_from Greater h = absurd (false≢true (sym h))
 
 -- what a look at neighbours answers is whether the names rise
 pub rise_answer : {X : Type 0} (name : X → List ℕ) (xs : List X) (r : Bool) → IsAllAdjacentAnswer (λ x y b. b ≡ is_lt (slice_cmp nat_cmp (name x) (name y)))
-    xs r → IsTrue r ↔ Rise (map name xs)
-rise_answer name xs true h = yes (Rise (map name xs)) (sorted_from_all_adjacent nat_list_cmp_total (map name xs) []
+    xs r → IsTrue r ↔ AreRising (map name xs)
+rise_answer name xs true h = yes (AreRising (map name xs)) (sorted_from_all_adjacent nat_list_cmp_total (map name xs) []
     (λ k below.
     let n = length-map xs name in
     let under : k + 1 < length xs = omega (arith, n, below) in
@@ -148,7 +148,7 @@ rise_answer name xs true h = yes (Rise (map name xs)) (sorted_from_all_adjacent 
     let second = get_or-map name xs (k + 1) d [] under in
     subst (λ n. slice_cmp nat_cmp n (get_or (map name xs) (k + 1) []) ≡ Less) (sym first)
     (subst (λ n. slice_cmp nat_cmp (name (get_or xs k d)) n ≡ Less) (sym second) less)))
-rise_answer name xs false h = no (Rise (map name xs)) (λ rise.
+rise_answer name xs false h = no (AreRising (map name xs)) (λ rise.
     let k = h.0 in
     let under = h.1 in
     let n = length-map xs name in
@@ -167,7 +167,7 @@ rise_answer name xs false h = no (Rise (map name xs)) (λ rise.
 pub stands : (items : List code.Item) (item : Item) (n : List ℕ) (s : Seen items item) → item.name ≡ n → StandsAt items n s.at
 stands items item n s e = record { below = s.below; named = λ d. ap (λ (i : Item). i.name) (s.is d) ∙ e }
 
-apart_below : (items : List code.Item) (n : List ℕ) (i j : ℕ) → Rise (names_of items) → StandsAt items n i → StandsAt items n j → i < j → ⊥
+apart_below : (items : List code.Item) (n : List ℕ) (i j : ℕ) → AreRising (names_of items) → StandsAt items n i → StandsAt items n j → i < j → ⊥
 apart_below items n i j rise s t lt =
     let d = (element items i s.below).0 in
     let long = length-map items (λ (item : code.Item). item.name) in
@@ -179,7 +179,7 @@ apart_below items n i j rise s t lt =
     not_below n l
 
 -- one name stands at one place
-pub one_place : (items : List code.Item) (n : List ℕ) (i j : ℕ) → Rise (names_of items) → StandsAt items n i → StandsAt items n j → i ≡ j
+pub one_place : (items : List code.Item) (n : List ℕ) (i j : ℕ) → AreRising (names_of items) → StandsAt items n i → StandsAt items n j → i ≡ j
 one_place items n i j rise s t = elim (cases_lt i j) [
   | inl lt ↦ absurd (apart_below items n i j rise s t lt)
   | inr ge ↦ elim (cases_lt j i) [
@@ -200,7 +200,7 @@ absent items n i h at s =
     ]
 
 -- what the search answers
-pub place_answer : (items : List code.Item) (n : List ℕ) (r : Result ℕ ℕ) (o : Option ℕ) → Rise (names_of items) → o ≡ result_ok r →
+pub place_answer : (items : List code.Item) (n : List ℕ) (r : Result ℕ ℕ) (o : Option ℕ) → AreRising (names_of items) → o ≡ result_ok r →
     IsSearchInRange r (length items)
     → IsBinarySearchResult (λ (item : code.Item). slice_cmp nat_cmp item.name n) items r → MatchOption o ((at : ℕ) → StandsAt items n at → ⊥) (StandsAt items n)
 place_answer items n (Ok i) o rise is bound h =
@@ -223,22 +223,23 @@ met_place items d m = stands items m.item d.name (seen items m.item m.is_one) m.
 pub unmet : (items : List code.Item) (d : Dependency) → ((at : ℕ) → StandsAt items d.name at → ⊥) → IsMetIn items d → ⊥
 unmet items d none m = none (seen items m.item m.is_one).at (met_place items d m)
 
-pub meets_there : (items : List code.Item) (d : Dependency) (at : ℕ) (x : code.Item) → StandsAt items d.name at → Meets (get_or items at x).version d.range →
+pub meets_there : (items : List code.Item) (d : Dependency) (at : ℕ) (x : code.Item) → StandsAt items d.name at
+    → IsInRange (get_or items at x).version d.range →
     IsMetAt items d at
 meets_there items d at x s v =
     let e = element items at s.below in
     record {
       below = s.below;
-      meets = λ y. record { name = s.named y; version = subst (λ (i : code.Item). Meets i.version d.range) (e.1 x ∙ sym (e.1 y)) v };
+      meets = λ y. record { name = s.named y; version = subst (λ (i : code.Item). IsInRange i.version d.range) (e.1 x ∙ sym (e.1 y)) v };
     }
 
-pub fails_there : (items : List code.Item) (d : Dependency) (at : ℕ) (x : code.Item) → Rise (names_of items) → StandsAt items d.name at
-    → (Meets (get_or items at x).version d.range → ⊥) → IsMetIn items d → ⊥
+pub fails_there : (items : List code.Item) (d : Dependency) (at : ℕ) (x : code.Item) → AreRising (names_of items) → StandsAt items d.name at
+    → (IsInRange (get_or items at x).version d.range → ⊥) → IsMetIn items d → ⊥
 fails_there items d at x rise s bad m =
     let k = seen items m.item m.is_one in
     let same = one_place items d.name k.at at rise (met_place items d m) s in
     let e : item_view (get_or items at x) ≡ m.item = ap (λ i. item_view (get_or items i x)) (sym same) ∙ k.is x in
-    bad (subst (λ (i : Item). Meets i.version d.range) (sym e) m.meets.version)
+    bad (subst (λ (i : Item). IsInRange i.version d.range) (sym e) m.meets.version)
 
 pub stands_met : (items : List code.Item) (d : Dependency) (at : ℕ) → IsMetAt items d at → StandsAt items d.name at
 stands_met items d at m = record { below = m.below; named = λ x. (m.meets x).name }

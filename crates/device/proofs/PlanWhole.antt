@@ -10,12 +10,12 @@ use Rattle.nuc_base.specs.declared.kinds.Step.TheVariants.{Bootstrap}
 use Rattle.nuc_base.proofs.Leading.{leads_more}
 use Rattle.nuc_base.proofs.Lists.{in_here, in_there, in_nil, in_cons}
 use Rattle.tree_core.specs.Regular.{IsRegular}
-use Rattle.recipe_reader.specs.OneRecipe.{Reads, AreAlike, IsOneRecipe}
+use Rattle.recipe_reader.specs.OneRecipe.{IsRecipeFor, AreAlike, IsOneRecipe}
 use Rattle.recipe_reader.specs.declared.recipe.Recipe.{Recipe}
 use Rattle.records.specs.Stored.{Item, item_view, plan_view}
 use Rattle.records.specs.declared.record.Item as code
 use Rattle.records.specs.declared.record.Plan as code_plan
-use Rattle.device.specs.Plans.{AreRegularItems, Rise, item_name, HasRecipe, HasConfig, IsHeldFor, IsRecipeOf, IsSupplied, NeedsByName, IsBoot}
+use Rattle.device.specs.Plans.{AreRegularItems, AreRising, item_name, HasRecipe, HasConfig, IsHeldFor, IsRecipeOf, IsSupplied, NeedsByName, IsBoot}
 use Rattle.device.specs.Plans.{AreRequirements, AreItems, AreBoots, IsPlan}
 use Rattle.device.specs.PlanNeeds.{names_of, IsRegularAt, HasConfigAt, HasRecipeAt, IsRecipeAt, AreListed, AreBootsIn, AreItemsWith, StandsAt, IsMetIn}
 use Rattle.device.specs.PlanNeeds.{AreMet, NeedsIn, FitsTogether, IsBootIn}
@@ -65,18 +65,18 @@ module _ (one : IsOneRecipe) (platform : Platform) (items : List code.Item) (rec
   pair : (item : Item) (s : Seen items item) → Pair (IsRecipeAt platform) items recipes s.at
   pair item s = pair_at (IsRecipeAt platform) items recipes s.at z s.below
 
-  alike : (item : Item) (s : Seen items item) (recipe : Recipe) → Reads item.recipe platform recipe → AreAlike recipe (pair item s).other
+  alike : (item : Item) (s : Seen items item) (recipe : Recipe) → IsRecipeFor item.recipe platform recipe → AreAlike recipe (pair item s).other
   alike item s recipe reads =
       let p = pair item s in
       let is : item_view p.one ≡ item = ap item_view (sym (p.one_is p.one)) ∙ s.is p.one in
-      one item.recipe platform recipe p.other reads (subst (λ (i : Item). Reads i.recipe platform p.other) is p.both.reads)
+      one item.recipe platform recipe p.other reads (subst (λ (i : Item). IsRecipeFor i.recipe platform p.other) is p.both.reads)
 
   -- an item and its recipe, by the place
   pub record Placed (at : ℕ) : Type 0 where
     pub item : Item
     pub is_one : Contains vs item
     pub recipe : Recipe
-    pub reads : Reads item.recipe platform recipe
+    pub reads : IsRecipeFor item.recipe platform recipe
     pub is : (d : Recipe) → get_or recipes at d ≡ recipe
     pub name : (n : List ℕ) → StandsAt items n at → item.name ≡ n
 
@@ -191,7 +191,7 @@ module _ (one : IsOneRecipe) (platform : Platform) (items : List code.Item) (rec
   pub items_whole : AreListed items → AllByRecursion HasConfigAt items → FitsTogether items recipes → AreItems platform vs
   items_whole listed configs fits = record {
     few = let few = listed.few in let n = length-map items item_view in omega (arith, few, n);
-    rise = subst Rise (sym (names_seen items)) listed.rise;
+    rise = subst AreRising (sym (names_seen items)) listed.rise;
     recipes = all_seen item_view (HasRecipe platform) items (has_recipes platform items recipes z);
     configs = all_seen item_view HasConfig items configs;
     supplied = supplied fits.met;
@@ -205,7 +205,7 @@ module _ (one : IsOneRecipe) (platform : Platform) (items : List code.Item) (rec
   }
 
 -- a recipe that is like the item's is the item's, and where it is not there is none
-alike_is : (platform : Platform) (item : Item) (r s : Recipe) → Reads item.recipe platform r → AreAlike s r → IsRecipeOf platform item s →
+alike_is : (platform : Platform) (item : Item) (r s : Recipe) → IsRecipeFor item.recipe platform r → AreAlike s r → IsRecipeOf platform item s →
     IsRecipeOf platform item r
 alike_is platform item r s reads like is = record {
   reads = reads;
@@ -214,7 +214,7 @@ alike_is platform item r s reads like is = record {
   files = subst (λ files. AllZip IsHeldFor files item.artifacts) like.artifacts is.files;
 }
 
-pub not_recipe : IsOneRecipe → (platform : Platform) (item : Item) (r : Recipe) → Reads item.recipe platform r → (IsRecipeOf platform item r → ⊥) →
+pub not_recipe : IsOneRecipe → (platform : Platform) (item : Item) (r : Recipe) → IsRecipeFor item.recipe platform r → (IsRecipeOf platform item r → ⊥) →
     HasRecipe platform item → ⊥
 not_recipe one platform item r reads bad h = bad (alike_is platform item r h.0 reads (one item.recipe platform h.0 r h.1.reads reads) h.1)
 
@@ -224,7 +224,7 @@ pub items_listed : (platform : Platform) (items : List code.Item) → AreItems p
 items_listed platform items are = record {
   few = let few = are.few in let n = length-map items item_view in omega (arith, few, n);
   rise =
-      subst Rise (names_seen items) are.rise;
+      subst AreRising (names_seen items) are.rise;
 }
 
 -- ---- an answer that speaks of another fact
@@ -235,7 +235,7 @@ answers (Err e) P Q f g h = tt
 
 -- ---- the boot of a name
 
-pub boot_answer : (items : List code.Item) (recipes : List Recipe) (n : List ℕ) (at : ℕ) (r : Recipe) (b : Bool) → Rise (names_of items) →
+pub boot_answer : (items : List code.Item) (recipes : List Recipe) (n : List ℕ) (at : ℕ) (r : Recipe) (b : Bool) → AreRising (names_of items) →
     length recipes ≡ length items → StandsAt items n at
     → b ≡ is_some (get_or recipes at r).bootstrap → IsTrue b ↔ IsBootIn items recipes n
 boot_answer items recipes n at r b rise same s e =

@@ -7,13 +7,13 @@ use Rattle.nuc_base.specs.declared.kinds.Outcome.{Outcome}
 use Rattle.records.specs.Layout.{IsWritable, item}
 use Rattle.records.specs.Stored.{Item, Plan, Record, Genesis, Accepted, BootBegun, BootEnded, Activating, StepFailed, Failing, FailingBack, Closed, Kept}
 use Rattle.device.specs.Devices.{Device, Pending, IsRegularDevice}
-use Rattle.device.specs.Does.{Does}
+use Rattle.device.specs.Does.{HasActed}
 use Rattle.device.specs.declared.fault.ApplyFault.{ApplyFault}
 use Rattle.device.specs.declared.fault.ApplyFault.TheVariants as fault
 use Rattle.device.specs.Grouped.{with_group}
 use Rattle.device.specs.Regularity.{IsRegularRecord}
 use Rattle.device.specs.Plans.{AreRegularItems}
-use Rattle.device.specs.Lawful.{Allowed, applied, on_pending, close_pending, takes_plan, boot_ended, count_failure, begun, activated, rolled, turned_back}
+use Rattle.device.specs.Lawful.{Allowed, applied, on_pending, close_pending, takes_plan, boot_ended, count_failure, begun, activated, rolled, sent_back}
 use Rattle.device.proofs.Course.{ended_plan, counted_plan}
 
 items_regular : (items : List Item) → AllByRecursion item.Asks items → AreRegularItems items
@@ -58,11 +58,12 @@ step d (BootEnded n e) r regular = staged (boot_ended e) d (ended_plan e) regula
 step d Activating r regular = staged activated d (λ q. refl) regular
 step d (StepFailed n s e) r regular = staged (count_failure d.set n) d (counted_plan d.set n) regular
 step d (Failing n) r regular = staged rolled d (λ q. refl) regular
-step d (FailingBack n) r regular = staged (turned_back d.origin d.set) d (λ q. refl) regular
+step d (FailingBack n) r regular = staged (sent_back d.origin d.set) d (λ q. refl) regular
 step d (Closed o) r regular = closed d o d.pending refl regular
 step d _ r regular = regular
 
-pub after : (old new : Device) (r : Record) (result : Result (Unit {0}) ApplyFault) → IsRegularRecord r → Does (Allowed old r) (applied old r) old new result
+pub after : (old new : Device) (r : Record) (result : Result (Unit {0}) ApplyFault) → IsRegularRecord r
+    → HasActed (Allowed old r) (applied old r) old new result
     → IsRegularDevice old → IsRegularDevice new
 after old new r (Ok x) writable does regular = subst IsRegularDevice (sym does.1) (step old r writable regular)
 after old new r (Err fault.NotLawful) writable does regular = subst IsRegularDevice (sym does.1) regular

@@ -20,11 +20,11 @@ use Rattle.device.specs.declared.staged.Pending as code_pending
 use Rattle.device.specs.Devices.{Device, Pending, Stage, device_view, pending_view}
 use Rattle.device.specs.Limits.{room_of_plan}
 use Rattle.device.specs.Lawful.{Allowed, applied, Lawful, MayAccept, MayBegin, MayEnd, MayActivate, MayCount, MayGoBack, begun, boot_ended, moved_on}
-use Rattle.device.specs.Lawful.{one_ended, goes_on, activated, counted, count_failure, rolled, turned_back, failing_name, failing_place, place, backs_of}
+use Rattle.device.specs.Lawful.{one_ended, goes_on, activated, counted, count_failure, rolled, sent_back, failing_name, failing_place, place, backs_of}
 use Rattle.device.specs.Lawful.{reach_of, goes_back}
 use Rattle.device.specs.Rooms.{failures_left, boots_left, way_back, left_of, still_to_come, HasRoom, TakesRoom}
 use Rattle.device.specs.Sound.{IsPlanFor, IsInStage, IsUnderWay, IsSound}
-use Rattle.device.specs.Standing.{Takes}
+use Rattle.device.specs.Standing.{IsPayload}
 use Rattle.device.proofs.Settling.{few_boots}
 use Rattle.device.proofs.SoundStages.{at, active_in, count_below}
 
@@ -154,15 +154,15 @@ falls_rolled q n may =
     let after : left_of (rolled q) ≡ 385 = refl in
     omega (arith, before, after)
 
-falls_turned : (origin : Option Origin) (set : List Item) (q : Pending) (n : List ℕ) → MayGoBack origin set n q → left_of (turned_back origin set q) + 1
+falls_sent_back : (origin : Option Origin) (set : List Item) (q : Pending) (n : List ℕ) → MayGoBack origin set n q → left_of (sent_back origin set q) + 1
     ≤ left_of q
-falls_turned None set q n may = absurd may.1
-falls_turned (Some o) set q n may =
+falls_sent_back None set q n may = absurd may.1
+falls_sent_back (Some o) set q n may =
     let before = falls_back q.stage q n may.0.1 in
     let short = filter_short (goes_back o.platform set) (take (reach_of q) q.plan.boots) in
-    let front = take_short (reach_of q) q.plan.boots in
-    let after : left_of (turned_back (Some o) set q) ≡ 2 * (length (backs_of o.platform set q.plan (reach_of q)) - 0) + 1 + 384 = refl in
-    omega (arith, before, after, short, front)
+    let prefix = take_short (reach_of q) q.plan.boots in
+    let after : left_of (sent_back (Some o) set q) ≡ 2 * (length (backs_of o.platform set q.plan (reach_of q)) - 0) + 1 + 384 = refl in
+    omega (arith, before, after, short, prefix)
 
 some_left : (s : Stage) (q : Pending) → 1 ≤ left_of (at s q)
 some_left stages.Booting q = by q.boot_failed
@@ -199,7 +199,7 @@ falls d q (BootEnded n e) way may = falls_ended q n e may
 falls d q Activating way may = falls_active d.origin d.set q may way.1
 falls d q (StepFailed n s e) way may = falls_counted d.set q.stage q n may.0
 falls d q (Failing n) way may = falls_rolled q n may.1
-falls d q (FailingBack n) way may = falls_turned d.origin d.set q n may
+falls d q (FailingBack n) way may = falls_sent_back d.origin d.set q n may
 falls d q (Closed o) way may = let some = some_left q.stage q in omega (arith, some)
 falls d q _ way may = absurd may
 
@@ -265,7 +265,7 @@ takes at next d (Some q) p r way spelled may near =
     let short = small d q p r spelled way may in
     left_behind at next (left_of q) (applied (pends d (Some q)) r).pending (omega (arith, near, short)) (falls d q r way may)
 
-pub takes_room : (at next : ℕ) (d e : Device) (p : List ℕ) → IsSound d → Takes d p e → next ≤ at + 5 + length p → TakesRoom at next d e
+pub takes_room : (at next : ℕ) (d e : Device) (p : List ℕ) → IsSound d → IsPayload d p e → next ≤ at + 5 + length p → TakesRoom at next d e
 takes_room at next d e p sound t near =
     subst (λ (x : Device). TakesRoom at next d x) (sym t.lawful.leaves) (takes at next d d.pending p t.entry sound.pending t.spelled t.lawful.allowed near)
 

@@ -7,7 +7,7 @@ use Rattle.std.proofs.lemmas.List.Elements.{All-nil, All-cons, All-head, All-tai
 use Rattle.std.proofs.lemmas.Option.{slice_get-map, slice_get_within, slice_get-get_or, get_or_from_slice_get}
 use Rattle.tree_core.specs.Regular.{IsRegular}
 use Rattle.tree_core.specs.View.{view}
-use Rattle.recipe_reader.specs.OneRecipe.{Reads}
+use Rattle.recipe_reader.specs.OneRecipe.{IsRecipeFor}
 use Rattle.recipe_reader.specs.declared.recipe.Recipe.{Recipe}
 use Rattle.interpolation.specs.declared.scope.Place.{Place}
 use Rattle.interpolation.specs.declared.scope.Scope.{Scope}
@@ -106,7 +106,7 @@ there_has_recipe origin items at x h is =
     (there_is origin items at x h is) in
     let same : h.item ≡ item_view x = sym (get_or_from_slice_get (map item_view items) at h.item h.item h.there) ∙ get_or_from_slice_get (map item_view items)
     at (item_view x) h.item seen in
-    (h.recipe, subst (λ (i : Item). Reads i.recipe origin.platform h.recipe) same h.reads)
+    (h.recipe, subst (λ (i : Item). IsRecipeFor i.recipe origin.platform h.recipe) same h.reads)
 
 -- ---- the whole scope
 
@@ -116,7 +116,7 @@ regular_there items at item there r =
     subst HasRegularItem (get_or_from_slice_get items at item item there) (All-get_or HasRegularItem items at item below r)
 
 pub scope_whole : (origin : Origin) (items : List code.Item) (at : ℕ) (item : code.Item) (recipe : Recipe) (scope : Scope) → slice_get items at ≡ Some item
-    → AreRegularItems (map item_view items) → Reads item.recipe origin.platform recipe → IsScopeBy origin recipe item items scope → IsScopeOf origin
+    → AreRegularItems (map item_view items) → IsRecipeFor item.recipe origin.platform recipe → IsScopeBy origin recipe item items scope → IsScopeOf origin
     (map item_view items) at scope
 scope_whole origin items at item recipe scope there r reads s =
     let seen : slice_get (map item_view items) at ≡ Some (item_view item) = slice_get-map item_view items at ∙ ap (option_map item_view) there in

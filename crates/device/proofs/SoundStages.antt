@@ -13,7 +13,7 @@ use Rattle.records.specs.Stored.{Item}
 use Rattle.device.specs.declared.staged.Stage.TheVariants as stages
 use Rattle.device.specs.Devices.{Pending, Stage}
 use Rattle.device.specs.Lawful.{MayBegin, MayEnd, MayActivate, MayCount, MayGoBack, begun, boot_ended, moved_on, one_ended, goes_on, activated, counted}
-use Rattle.device.specs.Lawful.{count_failure, rolled, turned_back, next_boot, failing_name, failing_place, place, place_from, reach_of, backs_of}
+use Rattle.device.specs.Lawful.{count_failure, rolled, sent_back, next_boot, failing_name, failing_place, place, place_from, reach_of, backs_of}
 use Rattle.device.specs.Lawful.{no_failures}
 use Rattle.device.specs.Sound.{AreCounts, IsBooting, IsInStage}
 
@@ -211,10 +211,10 @@ module _ (origin : Option Origin) (set : List Item) where
   reach_within stages.Backing q n h = absurd cc
   reach_within stages.Rolling q n h = absurd cc
 
-pub turned_in : (origin : Option Origin) (set : List Item) (q : Pending) (n : List ℕ) → MayGoBack origin set n q → IsInStage origin
-    set (turned_back origin set q)
-turned_in None set q n may = absurd may.1
-turned_in (Some o) set q n may = record {
+pub sent_back_in : (origin : Option Origin) (set : List Item) (q : Pending) (n : List ℕ) → MayGoBack origin set n q → IsInStage origin
+    set (sent_back origin set q)
+sent_back_in None set q n may = absurd may.1
+sent_back_in (Some o) set q n may = record {
   left = first_there (backs_of o.platform set q.plan (reach_of q)) may.1.1;
   failed = λ f. absurd (false≢true f);
   reach = reach_within (Some o) set q.stage q n may.0.1;

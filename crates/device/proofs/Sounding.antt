@@ -5,7 +5,7 @@ use Rattle.std.specs.List.{IsDistinct}
 use Rattle.std.specs.List.Sorted.{IsStrictlySortedBy}
 use Rattle.std.specs.Option.{IfSome, IsSomeAnd}
 use Rattle.std.proofs.lemmas.Bool.{false≢true}
-use Rattle.nuc_base.specs.Leads.{Leads, direct, through}
+use Rattle.nuc_base.specs.Leads.{HasPath, direct, through}
 use Rattle.nuc_base.specs.declared.kinds.Outcome.{Outcome}
 use Rattle.nuc_base.specs.declared.platform.Platform.{Platform}
 use Rattle.nuc_base.proofs.Lists.{in_nil}
@@ -18,15 +18,15 @@ use Rattle.device.specs.Does.{DoesRecord}
 use Rattle.device.specs.Grouped.{revision_of, with_group}
 use Rattle.device.specs.Plans.{AreItems, NeedsByName}
 use Rattle.device.specs.Lawful.{Allowed, applied, Lawful, Run, MayAccept, MayBegin, MayEnd, MayActivate, MayFail, MayBreak, MayGoBack, on_pending}
-use Rattle.device.specs.Lawful.{close_pending, takes_plan, boot_ended, count_failure, begun, activated, rolled, turned_back}
+use Rattle.device.specs.Lawful.{close_pending, takes_plan, boot_ended, count_failure, begun, activated, rolled, sent_back}
 use Rattle.device.specs.Sound.{IsPlanFor, IsAccepted, IsInStage, IsUnderWay, AreGroups, AreClosed, AreItemsFor, IsSound}
 use Rattle.device.proofs.Course.{ended_plan, counted_plan}
-use Rattle.device.proofs.SoundStages.{begun_in, ended_in, active_in, counted_in, rolled_in, turned_in}
+use Rattle.device.proofs.SoundStages.{begun_in, ended_in, active_in, counted_in, rolled_in, sent_back_in}
 use Rattle.device.proofs.SoundLists.{closed_more, groups_with, revision_rises}
 
 -- ---- no items
 
-no_needs : (platform : Platform) (a b : List ℕ) → Leads (NeedsByName platform []) a b → ⊥
+no_needs : (platform : Platform) (a b : List ℕ) → HasPath (NeedsByName platform []) a b → ⊥
 no_needs platform a b (direct n) = in_nil n.item n.is_one
 no_needs platform a b (through n more) = in_nil n.item n.is_one
 
@@ -149,8 +149,8 @@ step d Activating may sound = stays activated d (λ q. refl) (each_of d.pending 
 step d (StepFailed n s e) may sound = stays (count_failure d.set n) d (counted_plan d.set n)
     (each_of d.pending (MayFail d.set n s e) (Keeps d (count_failure d.set n)) (λ q m. counted_in d.origin d.set q.stage q n m.0) may) sound
 step d (Failing n) may sound = stays rolled d (λ q. refl) (each_of d.pending (MayBreak n) (Keeps d rolled) (λ q m is. rolled_in d.origin d.set q) may) sound
-step d (FailingBack n) may sound = stays (turned_back d.origin d.set) d (λ q. refl)
-    (each_of d.pending (MayGoBack d.origin d.set n) (Keeps d (turned_back d.origin d.set)) (λ q m is. turned_in d.origin d.set q n m) may) sound
+step d (FailingBack n) may sound = stays (sent_back d.origin d.set) d (λ q. refl)
+    (each_of d.pending (MayGoBack d.origin d.set n) (Keeps d (sent_back d.origin d.set)) (λ q m is. sent_back_in d.origin d.set q n m) may) sound
 step d (Closed o) may sound = closed d o d.pending refl sound
 step d _ may sound = absurd may
 

@@ -27,10 +27,10 @@ told_at f [] k x is = absurd cc
 told_at f (y ∷ xs) zero x is = let same : y ≡ x = cc in ap (λ z. Some (f z)) same
 told_at f (y ∷ xs) (suc k) x is = told_at f xs k x is
 
-pub front_at : {A : Type 0} (xs ys : List A) (k : ℕ) (x : A) → slice_get xs k ≡ Some x → slice_get (xs ++ ys) k ≡ Some x
-front_at [] ys k x is = absurd cc
-front_at (y ∷ xs) ys zero x is = is
-front_at (y ∷ xs) ys (suc k) x is = front_at xs ys k x is
+pub prefix_at : {A : Type 0} (xs ys : List A) (k : ℕ) (x : A) → slice_get xs k ≡ Some x → slice_get (xs ++ ys) k ≡ Some x
+prefix_at [] ys k x is = absurd cc
+prefix_at (y ∷ xs) ys zero x is = is
+prefix_at (y ∷ xs) ys (suc k) x is = prefix_at xs ys k x is
 
 pub behind_at : {A : Type 0} (xs ys : List A) (k : ℕ) → length xs ≤ k → slice_get (xs ++ ys) k ≡ slice_get ys (k - length xs)
 behind_at [] ys k le = let same : k - 0 ≡ k = omega arith in ap (slice_get ys) (sym same)
@@ -55,9 +55,9 @@ all_of : {A : Type 0} (P : A → Type 0) (xs : List A) → ((x : A) → P x) →
 all_of P [] each = tt
 all_of P (x ∷ xs) each = (each x, all_of P xs each)
 
-all_front : {A : Type 0} (P : A → Type 0) (xs ys : List A) → AllByRecursion P xs → AllByRecursion P ys → AllByRecursion P (xs ++ ys)
-all_front P [] ys h rest = rest
-all_front P (x ∷ xs) ys h rest = (h.0, all_front P xs ys h.1 rest)
+all_joined : {A : Type 0} (P : A → Type 0) (xs ys : List A) → AllByRecursion P xs → AllByRecursion P ys → AllByRecursion P (xs ++ ys)
+all_joined P [] ys h rest = rest
+all_joined P (x ∷ xs) ys h rest = (h.0, all_joined P xs ys h.1 rest)
 
 one_of : {A : Type 0} (P : A → Type 0) (xs : List A) (k : ℕ) (x : A) → AllByRecursion P xs → slice_get xs k ≡ Some x → P x
 one_of P [] k x h is = absurd cc
@@ -111,8 +111,8 @@ all_writable number d has regular = by d.origin has.origin has.sound.root has.so
     by None some root items = tt
     by (Some o) some root items = (
       (omega (arith, root), (tt, (tt, (tt, tt)))),
-      all_front IsWritable (map Grouped d.groups) (map Kept d.set ++ map ended d.closed) (groups_writable d.groups has.sound.groups.requirements)
-          (all_front IsWritable (map Kept d.set) (map ended d.closed)
+      all_joined IsWritable (map Grouped d.groups) (map Kept d.set ++ map ended d.closed) (groups_writable d.groups has.sound.groups.requirements)
+          (all_joined IsWritable (map Kept d.set) (map ended d.closed)
           (items_writable o.platform d.set items.recipes items.configs (recursion_from_All (λ (i : Item). IsRegular i.config) d.set regular.set))
           (closed_writable d.closed)),
     )

@@ -14,7 +14,7 @@ use Rattle.device.specs.declared.fault.RestoreFault.{RestoreFault}
 use Rattle.device.specs.declared.fault.RestoreFault.TheVariants as restore
 use Rattle.device.specs.Devices.{Device, device_view}
 use Rattle.device.specs.Fronts.{ended, stock_of, IsFrontOf, IsNoFront}
-use Rattle.device.specs.Rebuilt.{Building, device_of, Begins, BeginsAs, Comes, with_next, IsWhole, IsOrderly, IsBuilt, Came, Finished}
+use Rattle.device.specs.Rebuilt.{Building, device_of, MayRebuild, BeginsAs, MayComeNext, with_next, IsWhole, IsOrderly, IsBuilt, NextOutcome, FinishOutcome}
 use Rattle.device.specs.Standing.{BeginsNoFront, Walked, CamePayload, CameEntry, FrontBefore, TookFront}
 use Rattle.device.proofs.Beginnings.{heads, front_long, same_spelled}
 use Rattle.device.proofs.Fronting.{begins_built, built_more, comes, no_empty_front, is_all, is_whole, none_or_some, whole_front, front_begins}
@@ -29,7 +29,7 @@ zip_more (q ∷ ps) (s ∷ rs) p r zip spelled = (zip.0, zip_more ps rs p r zip.
 
 pub walks_on : (payloads others : List (List ℕ)) (at to : ℕ) (p : List ℕ) (r : Record) (old new : Building) (w : Walked payloads at old) → w.rest ≡ p ∷
     others → to ≡ at + 5 + length p → Spelled p r
-    → Comes old r → new ≡ with_next old r → Walked payloads to new
+    → MayComeNext old r → new ≡ with_next old r → Walked payloads to new
 walks_on payloads others at to p r old new w next to_is spelled may is = record {
   done = w.done ++ p ∷ [];
   rest = others;
@@ -84,7 +84,7 @@ record GoesOn (payloads : List (List ℕ)) (rest : List (List ℕ)) (records who
 
 built_long : (records : List Record) (b : Building) → IsBuilt records b → length records ≡ 1 + length b.groups + length b.set + length b.closed
 built_long records b built =
-    let whole = ap length built.told in
+    let whole = ap length built.is in
     let first = length-append (map Grouped b.groups) (map Kept b.set ++ map ended b.closed) in
     let second = length-append (map Kept b.set) (map ended b.closed) in
     let g = length-map b.groups Grouped in
@@ -102,7 +102,7 @@ nothing_more whole more b d built of =
     let turn : Turned h.number h.origin (length d.groups) (length d.set) (length d.closed) ∷ (stock_of d ++ more)
     ≡ Turned built.number b.origin (length b.groups + b.groups_to_come) (length b.set + b.items_to_come) (length b.closed + b.closed_to_come) ∷
     stock_of (device_of b)
-    = sym (ap (λ (l : List Record). l ++ more) h.is) ∙ built.told in
+    = sym (ap (λ (l : List Record). l ++ more) h.is) ∙ built.is in
     let g : length d.groups ≡ length b.groups + b.groups_to_come = cc in
     let i : length d.set ≡ length b.set + b.items_to_come = cc in
     let c : length d.closed ≡ length b.closed + b.closed_to_come = cc in
@@ -158,7 +158,7 @@ stops_whole payloads at b w none nothing no_more bad front after whole split zip
 -- the next payload spells no record that comes
 pub stops_before : (payloads others : List (List ℕ)) (at : ℕ) (p : List ℕ) (b : Building) (w : Walked payloads at b) → w.rest ≡ p ∷ others →
     0 < b.groups_to_come + b.items_to_come + b.closed_to_come
-    → ((r : Record) → Spelled p r → Comes b r → ⊥) → BeginsNoFront payloads
+    → ((r : Record) → Spelled p r → MayComeNext b r → ⊥) → BeginsNoFront payloads
 stops_before payloads others at p b w next some bad front after whole split zip d of =
     let g = goes_on payloads front after whole at b d w split zip of in
     by g.between g.behind g.more (sym next ∙ g.rest_is) g.zip g.is
@@ -180,7 +180,7 @@ stops_before payloads others at p b w next some bad front after whole split zip 
 -- ---- the beginning
 
 pub walks_first : (payloads others : List (List ℕ)) (to : ℕ) (p : List ℕ) (r : Record) (b : Building) → payloads ≡ p ∷ others → to ≡ 0 + 5 + length p →
-    Spelled p r → Begins r → BeginsAs r b → Walked payloads to b
+    Spelled p r → MayRebuild r → BeginsAs r b → Walked payloads to b
 walks_first payloads others to p r b is to_is spelled begins begun = record {
   done = p ∷ [];
   rest = others;
@@ -191,21 +191,22 @@ walks_first payloads others to p r b is to_is spelled begins begun = record {
   built = begins_built r b begins begun;
 }
 
-pub stops_first : (payloads others : List (List ℕ)) (p : List ℕ) (r : Record) → payloads ≡ p ∷ others → Spelled p r → (Begins r → ⊥) → BeginsNoFront payloads
+pub stops_first : (payloads others : List (List ℕ)) (p : List ℕ) (r : Record) → payloads ≡ p ∷ others → Spelled p r → (MayRebuild r → ⊥)
+    → BeginsNoFront payloads
 stops_first payloads others p r is spelled bad [] after [] split zip d of = no_empty_front d of
 stops_first payloads others p r is spelled bad [] after (s ∷ ss) split zip d of = absurd zip
 stops_first payloads others p r is spelled bad (q ∷ qs) after [] split zip d of = absurd zip
 stops_first payloads others p r is spelled bad (q ∷ qs) after (s ∷ ss) split zip d of =
     let head : q ≡ p = cc in
     let same : s ≡ r = one_record p s r (subst (λ (z : List ℕ). Spelled z s) head zip.0) spelled in
-    bad (subst Begins same (front_begins s ss d of))
+    bad (subst MayRebuild same (front_begins s ss d of))
 
 -- ---- as the code walks
 
-pub came_payload : (r : Record) (p : List ℕ) (old new : Building) (result : Result (Unit {0}) RestoreFault) → Spelled p r → Came r old new result →
+pub came_payload : (r : Record) (p : List ℕ) (old new : Building) (result : Result (Unit {0}) RestoreFault) → Spelled p r → NextOutcome r old new result →
     CamePayload old p new result
 came_payload r p old new (Ok x) spelled came = (r, spelled, came.0, came.1)
-came_payload r p old new (Err restore.NotSound) spelled bad = λ s other may. bad (subst (Comes old) (one_record p s r other spelled) may)
+came_payload r p old new (Err restore.NotSound) spelled bad = λ s other may. bad (subst (MayComeNext old) (one_record p s r other spelled) may)
 came_payload r p old new (Err restore.NoMemory) spelled came = tt
 
 -- what stands next
@@ -249,7 +250,7 @@ entry_fault payloads at b c w a fault.Disk some came = tt
 entry_fault payloads at b c w a (fault.Damaged place) some came = (came.0, stops_before payloads a.others at a.first b w a.is some came.1)
 entry_fault payloads at b c w a fault.NoMemory some came = tt
 
-pub front_taken : (payloads : List (List ℕ)) (at : ℕ) (b : Building) (device : code.Device) → Walked payloads at b → IsOrderly b → Finished b (Ok device) →
+pub front_taken : (payloads : List (List ℕ)) (at : ℕ) (b : Building) (device : code.Device) → Walked payloads at b → IsOrderly b → FinishOutcome b (Ok device) →
     FrontBefore payloads (device_view device) at
 front_taken payloads at b device w are whole = record {
   front = w.done;

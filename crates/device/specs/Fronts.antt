@@ -38,7 +38,7 @@ pub record HasFront (d : Device) : Type 0 where
   pub idle : d.pending ≡ None
   pub sound : IsSound d
 
--- these records are the front of this device
+-- these records are the front of this device, its snapshot
 pub record IsFrontOf (records : List Record) (d : Device) : Type 0 where
   pub has : HasFront d
   pub number : ℕ

@@ -4,7 +4,7 @@ use Rattle.std.specs.Option.{IsSomeAnd}
 use Rattle.records.specs.Stored as stored
 use Rattle.records.specs.Stored.{Item, Record}
 use Rattle.device.specs.Devices.{Device, Pending}
-use Rattle.device.specs.Lawful.{next_boot, failing_name, failing_place, begun, boot_ended, activated, counted, rolled, turned_to, MayCount}
+use Rattle.device.specs.Lawful.{next_boot, failing_name, failing_place, begun, boot_ended, activated, counted, rolled, sent_to, MayCount}
 use Rattle.device.specs.declared.mark.Mark.{Mark}
 use Rattle.device.specs.declared.mark.Mark.TheVariants as marks
 
@@ -32,7 +32,7 @@ marked backs (marks.BootEnded e) q = boot_ended e q
 marked backs marks.Activating q = activated q
 marked backs (marks.StepFailed k s e) q = counted (Some k) q
 marked backs marks.Failing q = rolled q
-marked backs marks.FailingBack q = turned_to backs q
+marked backs marks.FailingBack q = sent_to backs q
 marked backs (marks.Closed o) q = q
 
 -- what its arithmetic rests on

@@ -3,7 +3,7 @@ use Rattle.std.specs.Prelude.{◌≡◌, List, [], ◌∷◌, Option, Some, None
 use Rattle.std.specs.List.{AllByRecursion, Contains}
 use Rattle.std.specs.Option.{IfSome}
 use Rattle.records.specs.Stored.{Item, Plan, Record, Accepted}
-use Rattle.npm_ranges.specs.Ranges.{Meets}
+use Rattle.npm_ranges.specs.Ranges.{IsInRange}
 use Rattle.records.specs.declared.record.Origin.{Origin}
 use Rattle.records.specs.declared.record.Requirement.{Requirement}
 use Rattle.device.specs.Grouped.{with_group}
@@ -16,7 +16,7 @@ pub record IsAnswered (items : List Item) (requirement : Requirement) : Type 0 w
   pub item : Item
   pub is_one : Contains items item
   pub name : item.name ≡ requirement.name
-  pub version : Meets item.version requirement.range
+  pub version : IsInRange item.version requirement.range
 
 -- each requirement of each group is met by an item
 abbrev pub GroupsAreMet : List Group → List Item → Type 0

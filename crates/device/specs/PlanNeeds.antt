@@ -2,7 +2,7 @@
 use Rattle.std.specs.Prelude.{◌≡◌, ℕ, ◌+◌, ◌<◌, ◌≤◌, List, [], ◌∷◌, ◌++◌, length, map, IsSome}
 use Rattle.std.specs.List.{AllByRecursion, AllZip, Contains, HoldsAt, IsDistinct}
 use Rattle.std.specs.Str.{bytes_eq}
-use Rattle.nuc_base.specs.Leads.{Leads}
+use Rattle.nuc_base.specs.Leads.{HasPath}
 use Rattle.nuc_base.specs.declared.platform.Platform.{Platform}
 use Rattle.tree_core.specs.Regular.{IsRegular}
 use Rattle.tree_core.specs.View.{view}
@@ -13,7 +13,7 @@ use Rattle.recipe_reader.specs.declared.recipe.Recipe.{Recipe}
 use Rattle.records.specs.Stored.{item_view}
 use Rattle.records.specs.declared.record.Item as code
 use Rattle.device.specs.Limits.{most_elements}
-use Rattle.device.specs.Plans.{Rise, HasConfig, HasRecipe, IsRecipeOf, IsMetBy, IsMet, AreItems}
+use Rattle.device.specs.Plans.{AreRising, HasConfig, HasRecipe, IsRecipeOf, IsMetBy, IsMet, AreItems}
 use Rattle.device.specs.Scopes.{IsPlaceOf}
 
 -- ---- one item
@@ -42,7 +42,7 @@ names_of items = map (λ (item : code.Item). item.name) items
 -- few, their names rising
 pub record AreListed (items : List code.Item) : Type 0 where
   pub few : length items ≤ most_elements
-  pub rise : Rise (names_of items)
+  pub rise : AreRising (names_of items)
 
 -- ---- items by their places
 
@@ -93,7 +93,7 @@ pub record NeedsIn (items : List code.Item) (recipes : List Recipe) (a b : List 
 -- what the recipes name is met, without a cycle
 pub record FitsTogether (items : List code.Item) (recipes : List Recipe) : Type 0 where
   pub met : AllByRecursion (AreMet items) recipes
-  pub acyclic : (name : List ℕ) → Leads (NeedsIn items recipes) name name → ⊥
+  pub acyclic : (name : List ℕ) → HasPath (NeedsIn items recipes) name name → ⊥
 
 -- ---- boots
 

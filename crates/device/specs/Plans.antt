@@ -7,13 +7,13 @@ use Rattle.std.specs.Cmp.Lexicographic.{slice_cmp}
 use Rattle.std.specs.Str.{bytes_eq}
 use Rattle.serde_json.specs.Data.{Data}
 use Rattle.serde_json.specs.Written.{compact_text}
-use Rattle.nuc_base.specs.Leads.{Leads}
+use Rattle.nuc_base.specs.Leads.{HasPath}
 use Rattle.nuc_base.specs.declared.artifact.Artifact.{Artifact}
 use Rattle.nuc_base.specs.declared.platform.Platform.{Platform}
-use Rattle.npm_ranges.specs.Ranges.{Meets}
+use Rattle.npm_ranges.specs.Ranges.{IsInRange}
 use Rattle.tree_core.specs.Parts.{IsObject}
 use Rattle.tree_core.specs.Regular.{IsRegular}
-use Rattle.recipe_reader.specs.OneRecipe.{Reads}
+use Rattle.recipe_reader.specs.OneRecipe.{IsRecipeFor}
 use Rattle.recipe_reader.specs.declared.recipe.Dependency.{Dependency}
 use Rattle.recipe_reader.specs.declared.recipe.Recipe.{Recipe}
 use Rattle.records.specs.Stored.{Item, Plan}
@@ -30,8 +30,8 @@ abbrev pub requirement_name : Requirement → List ℕ
 requirement_name requirement = requirement.name
 
 -- the names rise strictly in byte order
-abbrev pub Rise : List (List ℕ) → Type 0
-Rise names = IsStrictlySortedBy (slice_cmp nat_cmp) names
+abbrev pub AreRising : List (List ℕ) → Type 0
+AreRising names = IsStrictlySortedBy (slice_cmp nat_cmp) names
 
 -- ---- an item and its recipe
 
@@ -42,18 +42,18 @@ pub record IsHeldFor (artifact : Artifact) (held : Held) : Type 0 where
 
 -- the item's bytes are this recipe, which is one of its name, its version and its files in order
 pub record IsRecipeOf (platform : Platform) (item : Item) (recipe : Recipe) : Type 0 where
-  pub reads : Reads item.recipe platform recipe
+  pub reads : IsRecipeFor item.recipe platform recipe
   pub name : recipe.name ≡ item.name
   pub version : recipe.version ≡ item.version
   pub files : AllZip IsHeldFor recipe.artifacts item.artifacts
 
 -- the bytes are a recipe for the platform
 abbrev pub HasSomeRecipe : Platform → List ℕ → Type 0
-HasSomeRecipe platform bytes = (recipe : Recipe) × Reads bytes platform recipe
+HasSomeRecipe platform bytes = (recipe : Recipe) × IsRecipeFor bytes platform recipe
 
 -- no recipe for the platform
 abbrev pub IsNoRecipe : Platform → List ℕ → Type 0
-IsNoRecipe platform bytes = (recipe : Recipe) → Reads bytes platform recipe → ⊥
+IsNoRecipe platform bytes = (recipe : Recipe) → IsRecipeFor bytes platform recipe → ⊥
 
 abbrev pub HasRecipe : Platform → Item → Type 0
 HasRecipe platform item = (recipe : Recipe) × IsRecipeOf platform item recipe
@@ -75,13 +75,13 @@ AreRegularItems items = All (λ item. IsRegular item.config) items
 -- the item's recipe names the dependency
 pub record NamesDependency (platform : Platform) (item : Item) (dependency : Dependency) : Type 0 where
   pub recipe : Recipe
-  pub reads : Reads item.recipe platform recipe
+  pub reads : IsRecipeFor item.recipe platform recipe
   pub named : Contains recipe.dependencies dependency
 
 -- the item has the name, and a version in the range
 pub record IsMetBy (dependency : Dependency) (item : Item) : Type 0 where
   pub name : item.name ≡ dependency.name
-  pub version : Meets item.version dependency.range
+  pub version : IsInRange item.version dependency.range
 
 -- one of the items meets the dependency
 pub record IsMet (items : List Item) (dependency : Dependency) : Type 0 where
@@ -110,7 +110,7 @@ pub record IsBoot (platform : Platform) (items : List Item) (name : List ℕ) : 
   pub is_one : Contains items item
   pub named : item.name ≡ name
   pub recipe : Recipe
-  pub reads : Reads item.recipe platform recipe
+  pub reads : IsRecipeFor item.recipe platform recipe
   pub step : IsSome recipe.bootstrap
 
 -- ---- the whole
@@ -118,16 +118,16 @@ pub record IsBoot (platform : Platform) (items : List Item) (name : List ℕ) : 
 -- each group's requirements, and a plan's: few, their names rising
 pub record AreRequirements (requirements : List Requirement) : Type 0 where
   pub few : length requirements ≤ most_elements
-  pub rise : Rise (map requirement_name requirements)
+  pub rise : AreRising (map requirement_name requirements)
 
 -- what a device runs: few items, their names rising, each with its recipe and its configuration, and all that they name as dependencies is met without a cycle
 pub record AreItems (platform : Platform) (items : List Item) : Type 0 where
   pub few : length items ≤ most_elements
-  pub rise : Rise (map item_name items)
+  pub rise : AreRising (map item_name items)
   pub recipes : AllByRecursion (HasRecipe platform) items
   pub configs : AllByRecursion HasConfig items
   pub supplied : AllByRecursion (IsSupplied platform items) items
-  pub acyclic : (name : List ℕ) → Leads (NeedsByName platform items) name name → ⊥
+  pub acyclic : (name : List ℕ) → HasPath (NeedsByName platform items) name name → ⊥
 
 -- the names of different items with a bootstrap step. That they are few follows; it stands here for those who count them.
 pub record AreBoots (platform : Platform) (items : List Item) (boots : List (List ℕ)) : Type 0 where

@@ -45,9 +45,9 @@ device_of b = record { origin = Some b.origin; groups = b.groups; set = b.set; c
 -- ---- the beginning
 
 -- a turn that counts no more than a device may have
-abbrev pub Begins : Record → Type 0
-Begins (Turned n o groups items closed) = (length o.root ≤ most_root) × (groups ≤ most_groups) × (items ≤ most_elements) × (closed ≤ most_closed)
-Begins _ = ⊥
+abbrev pub MayRebuild : Record → Type 0
+MayRebuild (Turned n o groups items closed) = (length o.root ≤ most_root) × (groups ≤ most_groups) × (items ≤ most_elements) × (closed ≤ most_closed)
+MayRebuild _ = ⊥
 
 -- nothing of its stock came yet
 abbrev pub BeginsAs : Record → Building → Type 0
@@ -66,11 +66,11 @@ BeginsAs _ b = ⊥
 -- ---- one record more
 
 -- the groups come first, then the items, then the closed deployments
-abbrev pub Comes : Building → Record → Type 0
-Comes b (Grouped g) = (0 < b.groups_to_come) × (has_group g.arn b.groups ≡ false) × AreRequirements g.requirements
-Comes b (Kept i) = (b.groups_to_come ≡ 0) × (0 < b.items_to_come)
-Comes b (Ended id o) = (b.groups_to_come ≡ 0) × (b.items_to_come ≡ 0) × (0 < b.closed_to_come) × (lookup (bytes_eq id) b.closed ≡ None)
-Comes b _ = ⊥
+abbrev pub MayComeNext : Building → Record → Type 0
+MayComeNext b (Grouped g) = (0 < b.groups_to_come) × (has_group g.arn b.groups ≡ false) × AreRequirements g.requirements
+MayComeNext b (Kept i) = (b.groups_to_come ≡ 0) × (0 < b.items_to_come)
+MayComeNext b (Ended id o) = (b.groups_to_come ≡ 0) × (b.items_to_come ≡ 0) × (0 < b.closed_to_come) × (lookup (bytes_eq id) b.closed ≡ None)
+MayComeNext b _ = ⊥
 
 abbrev pub with_next : Building → Record → Building
 with_next b (Grouped g) = record b { groups = b.groups ++ g ∷ []; groups_to_come = b.groups_to_come - 1 }
@@ -99,27 +99,27 @@ pub record IsOrderly (b : Building) : Type 0 where
   pub few_closed : length b.closed + b.closed_to_come ≤ most_closed
   pub regular : AreRegularItems b.set
 
--- these records were told so far
+-- these records were given so far
 pub record IsBuilt (records : List Record) (b : Building) : Type 0 where
   pub number : ℕ
-  pub told : records ≡ Turned number b.origin (length b.groups + b.groups_to_come) (length b.set + b.items_to_come) (length b.closed + b.closed_to_come) ∷
+  pub is : records ≡ Turned number b.origin (length b.groups + b.groups_to_come) (length b.set + b.items_to_come) (length b.closed + b.closed_to_come) ∷
       stock_of (device_of b)
   pub items_later : 0 < b.groups_to_come → b.set ≡ []
   pub closed_later : 0 < b.groups_to_come + b.items_to_come → b.closed ≡ []
 
 -- ---- what the steps answer
 
-abbrev pub Began : Record → Result code.Rebuilding RestoreFault → Type 0
-Began r (Ok b) = Begins r × BeginsAs r (building_view b)
-Began r (Err NotSound) = Begins r → ⊥
-Began r (Err NoMemory) = ⊤
+abbrev pub BeginOutcome : Record → Result code.Rebuilding RestoreFault → Type 0
+BeginOutcome r (Ok b) = MayRebuild r × BeginsAs r (building_view b)
+BeginOutcome r (Err NotSound) = MayRebuild r → ⊥
+BeginOutcome r (Err NoMemory) = ⊤
 
-abbrev pub Came : Record → Building → Building → Result (Unit {0}) RestoreFault → Type 0
-Came r old new (Ok x) = Comes old r × (new ≡ with_next old r)
-Came r old new (Err NotSound) = Comes old r → ⊥
-Came r old new (Err NoMemory) = ⊤
+abbrev pub NextOutcome : Record → Building → Building → Result (Unit {0}) RestoreFault → Type 0
+NextOutcome r old new (Ok x) = MayComeNext old r × (new ≡ with_next old r)
+NextOutcome r old new (Err NotSound) = MayComeNext old r → ⊥
+NextOutcome r old new (Err NoMemory) = ⊤
 
-abbrev pub Finished : Building → Result code_device.Device RestoreFault → Type 0
-Finished b (Ok d) = IsWhole b × (device_view d ≡ device_of b)
-Finished b (Err NotSound) = IsWhole b → ⊥
-Finished b (Err NoMemory) = ⊤
+abbrev pub FinishOutcome : Building → Result code_device.Device RestoreFault → Type 0
+FinishOutcome b (Ok d) = IsWhole b × (device_view d ≡ device_of b)
+FinishOutcome b (Err NotSound) = IsWhole b → ⊥
+FinishOutcome b (Err NoMemory) = ⊤

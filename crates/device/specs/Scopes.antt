@@ -3,7 +3,7 @@ use Rattle.std.specs.Prelude.{◌≡◌, ℕ, Bool, List, [], ◌∷◌, ◌++�
 use Rattle.std.specs.List.{AllZip, list_any}
 use Rattle.std.specs.Str.{bytes_eq}
 use Rattle.tree_core.specs.View.{view}
-use Rattle.recipe_reader.specs.OneRecipe.{Reads}
+use Rattle.recipe_reader.specs.OneRecipe.{IsRecipeFor}
 use Rattle.recipe_reader.specs.declared.recipe.Recipe.{Recipe}
 use Rattle.interpolation.specs.Scopes.{HasRegularConfigs}
 use Rattle.interpolation.specs.declared.scope.Place.{Place}
@@ -34,7 +34,7 @@ pub record IsScopeOf (origin : Origin) (items : List Item) (at : ℕ) (scope : S
   pub there : slice_get items at ≡ Some item
   pub own : IsPlaceOf item scope.own
   pub recipe : Recipe
-  pub reads : Reads item.recipe origin.platform recipe
+  pub reads : IsRecipeFor item.recipe origin.platform recipe
   pub needed : AllZip IsPlaceOf (needed_items recipe items) scope.needed
   pub regular : HasRegularConfigs scope
 
@@ -43,7 +43,7 @@ pub record HasScope (origin : Origin) (items : List Item) (at : ℕ) : Type 0 wh
   pub item : Item
   pub there : slice_get items at ≡ Some item
   pub recipe : Recipe
-  pub reads : Reads item.recipe origin.platform recipe
+  pub reads : IsRecipeFor item.recipe origin.platform recipe
 
 -- ---- the parts of a scope, of items as they lie in memory
 

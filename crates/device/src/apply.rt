@@ -121,7 +121,7 @@ impl Device {
         plan.revision == 0 || self.groups.revision_of(&plan.group) <= plan.revision
     }
 
-    fn is_in_turn(&self, plan: &Plan) -> bool
+    fn is_fresh_and_fits(&self, plan: &Plan) -> bool
         ensures { IsTrue result ↔ (HasRoomFor (device_view self.now) (plan_view plan.now) × IsNotOlder (device_view self.now).groups (plan_view plan.now)) }
     {
         self.has_room_for(plan) && self.is_not_older(plan)
@@ -134,7 +134,7 @@ impl Device {
         let Some(origin) = &self.origin else {
             return Ok(false);
         };
-        if !self.is_in_turn(plan) {
+        if !self.is_fresh_and_fits(plan) {
             return Ok(false);
         }
         is_plan(alloc, &origin.platform, plan)

@@ -14,7 +14,7 @@ use crate::device::Device;
 use crate::mark::Mark;
 use crate::spare::Spare;
 use crate::staged::{Pending, Stage};
-use crate::steps::{goes_on, has_flag, move_on, roll, takes_plan, turn_back};
+use crate::steps::{goes_on, has_flag, move_on, roll, send_back, takes_plan};
 use nuc_base::{Exit, Outcome};
 use records::Plan;
 use std::mem::swap;
@@ -51,7 +51,7 @@ fn mark_pending(pending: &mut Pending, mark: Mark, flags: &[bool; 128])
         }
         Mark::StepFailed(at, _, _) => count(pending, at),
         Mark::Failing => roll(pending),
-        Mark::FailingBack => turn_back(pending, flags),
+        Mark::FailingBack => send_back(pending, flags),
         Mark::Closed(_) => {}
     }
 }
@@ -106,7 +106,7 @@ impl Device {
         requires sound { IsSound (device_view self.now) }
         requires spare { IsSpareOf spare.now (device_view self.now) }
         requires fails { IsSomeAnd (device_view self.now).pending (λ q. is_some (failing_name q) ≡ true) }
-        ensures told { IfSome (device_view self.now).pending
+        ensures answers { IfSome (device_view self.now).pending
             (λ q. IsTrue result ↔ (backs (device_view self.now).origin (device_view self.now).set q.plan (reach_of q) ≢ [])) }
         ensures lawful { IfSome (device_view self.now).pending (λ q. IsTrue result ↔ IsSomeAnd (device_view self.now).origin
             (HasBacks (device_view self.now).set q)) }

@@ -203,7 +203,7 @@ fn write_marked(set: &[Item], pending: &Pending, mark: Mark, into: &mut [u8; 102
 }
 
 impl Device {
-    /// Writes the spelling of the mark's record at the front of the bytes, without taking memory, and gives its length.
+    /// Writes the spelling of the mark's record at the beginning of the bytes, without taking memory, and gives its length.
     pub fn write_mark(&self, mark: Mark, _spare: &Spare, into: &mut [u8; 1024]) -> usize
         requires { (r : Record) × IsMark (device_view self.now) mark r }
         ensures spelled { (r : Record) → IsMark (device_view self.now) mark r → Spelled (take result into.new) r }

@@ -2,7 +2,7 @@
 ghost use Rattle.std.specs.Prelude.{◌≡◌, ◌↔◌, ℕ, ◌≤◌, List, length, IsTrue, IfOk, MatchBool, MatchOption};
 ghost use Rattle.std.specs.List.{AllByRecursion};
 ghost use Rattle.dep_order.specs.Orders.{AreNodes, IsAcyclic};
-ghost use Rattle.device.specs.Plans.{Rise};
+ghost use Rattle.device.specs.Plans.{AreRising};
 ghost use Rattle.device.specs.PlanNeeds.{names_of, StandsAt, IsMetAt, IsMetIn, AreMet, AddsNeeds, AreNeeds};
 
 use dep_order::{Edges, Need, OrderFault, order};
@@ -13,7 +13,7 @@ use std::alloc::Global;
 
 /// The place of the item of that name.
 pub(crate) fn place_of(items: &[Item], name: &Name) -> Option<usize>
-    requires { Rise (names_of items.now) }
+    requires { AreRising (names_of items.now) }
     ensures { MatchOption result ((at : ℕ) → StandsAt items.now name.now at → ⊥) (StandsAt items.now name.now) }
 {
     items.binary_search_by(|item| item.name.cmp(name)).ok()
@@ -21,7 +21,7 @@ pub(crate) fn place_of(items: &[Item], name: &Name) -> Option<usize>
 
 /// The place of the item that meets the dependency.
 fn met_at(items: &[Item], dependency: &Dependency) -> Option<usize>
-    requires { Rise (names_of items.now) }
+    requires { AreRising (names_of items.now) }
     ensures { MatchOption result (IsMetIn items.now dependency.now → ⊥) (IsMetAt items.now dependency.now) }
 {
     let Some(at) = place_of(items, &dependency.name) else {
@@ -41,7 +41,7 @@ fn add_needs(
     recipe: &Recipe,
     needs: &mut Vec<Need>,
 ) -> Result<bool, NoMemory>
-    requires rise { Rise (names_of items.now) }
+    requires rise { AreRising (names_of items.now) }
     requires few { length items.now ≤ 128 }
     ensures { IfOk result (λ b. MatchBool b
         (AddsNeeds items.now from recipe.now.dependencies needs.old.items needs.new.items)
@@ -66,7 +66,7 @@ pub(crate) fn needs_of(
     items: &[Item],
     recipes: &[Recipe],
 ) -> Result<Option<Vec<Need>>, NoMemory>
-    requires rise { Rise (names_of items.now) }
+    requires rise { AreRising (names_of items.now) }
     requires few { length items.now ≤ 128 }
     requires count { length recipes.now ≤ 128 }
     ensures { IfOk result (λ o. MatchOption o

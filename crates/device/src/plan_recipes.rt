@@ -1,7 +1,7 @@
 //! The recipes of a plan's items.
 ghost use Rattle.std.specs.Prelude.{◌≡◌, ◌↔◌, IsTrue, IfOk, MatchOption};
 ghost use Rattle.std.specs.List.{AllByRecursion, AllZip};
-ghost use Rattle.recipe_reader.specs.OneRecipe.{Reads};
+ghost use Rattle.recipe_reader.specs.OneRecipe.{IsRecipeFor};
 ghost use Rattle.recipe_reader.specs.declared.fault.RecipeFault.TheVariants.{NoMemory as OutOfMemory};
 ghost use Rattle.records.specs.Stored.{item_view};
 ghost use Rattle.device.specs.Plans.{IsHeldFor, IsRecipeOf, HasRecipe, IsNoRecipe};
@@ -24,7 +24,7 @@ pub(crate) fn recipe_in(
     platform: &Platform,
     bytes: &[u8],
 ) -> Result<Option<Recipe>, NoMemory>
-    ensures { IfOk result (λ o. MatchOption o (IsNoRecipe platform.now bytes.now) (Reads bytes.now platform.now)) }
+    ensures { IfOk result (λ o. MatchOption o (IsNoRecipe platform.now bytes.now) (IsRecipeFor bytes.now platform.now)) }
 {
     recipe_laws();
     match Recipe::read(alloc, bytes, platform) {
@@ -68,7 +68,7 @@ fn are_held(artifacts: &[Artifact], held: &[Held]) -> bool
 
 /// Whether the recipe is one of the item's name, version and files.
 fn is_recipe_of(platform: &Platform, item: &Item, recipe: &Recipe) -> bool
-    requires { Reads item.now.recipe platform.now recipe.now }
+    requires { IsRecipeFor item.now.recipe platform.now recipe.now }
     ensures { IsTrue result ↔ IsRecipeOf platform.now (item_view item.now) recipe.now }
 {
     recipe.name == item.name

@@ -5,7 +5,7 @@ ghost use Rattle.std.specs.Str.{bytes_eq};
 ghost use Rattle.tree_core.specs.Regular.{IsRegular};
 ghost use Rattle.tree_core.specs.View.{view};
 ghost use Rattle.records.specs.Stored.{item_view, plan_view};
-ghost use Rattle.device.specs.Plans.{Rise, requirement_name, IsConfig, AreRegularItems, AreRequirements, AreItems, IsPlan};
+ghost use Rattle.device.specs.Plans.{AreRising, requirement_name, IsConfig, AreRegularItems, AreRequirements, AreItems, IsPlan};
 ghost use Rattle.device.specs.PlanNeeds.{names_of, HasConfigAt, IsRegularAt, IsBootIn, AreListed, AreBootsIn, AreItemsWith, FitsTogether};
 
 use crate::limits::{MOST_CONFIG, MOST_ELEMENTS};
@@ -19,13 +19,13 @@ use std::alloc::Global;
 use tree_core::Tree;
 
 fn requirements_rise(requirements: &[Requirement]) -> bool
-    ensures { IsTrue result ↔ Rise (map requirement_name requirements.now) }
+    ensures { IsTrue result ↔ AreRising (map requirement_name requirements.now) }
 {
     requirements.is_sorted_by(|a, b| a.name < b.name)
 }
 
 fn items_rise(items: &[Item]) -> bool
-    ensures { IsTrue result ↔ Rise (names_of items.now) }
+    ensures { IsTrue result ↔ AreRising (names_of items.now) }
 {
     items.is_sorted_by(|a, b| a.name < b.name)
 }
@@ -86,7 +86,7 @@ fn are_configs(alloc: Global, items: &[Item]) -> Result<bool, NoMemory>
 
 /// Whether the name is that of an item with a bootstrap step.
 fn is_boot(items: &[Item], recipes: &[Recipe], name: &Name) -> bool
-    requires rise { Rise (names_of items.now) }
+    requires rise { AreRising (names_of items.now) }
     requires count { length recipes.now ≡ length items.now }
     ensures { IsTrue result ↔ IsBootIn items.now recipes.now name.now }
 {
@@ -97,7 +97,7 @@ fn is_boot(items: &[Item], recipes: &[Recipe], name: &Name) -> bool
 }
 
 fn have_steps(items: &[Item], recipes: &[Recipe], names: &[Name]) -> bool
-    requires rise { Rise (names_of items.now) }
+    requires rise { AreRising (names_of items.now) }
     requires count { length recipes.now ≡ length items.now }
     ensures { IsTrue result ↔ AllByRecursion (IsBootIn items.now recipes.now) names.now }
 {
@@ -111,7 +111,7 @@ fn have_steps(items: &[Item], recipes: &[Recipe], names: &[Name]) -> bool
 
 /// Whether the names are few and those of different items with a bootstrap step.
 fn are_boots(items: &[Item], recipes: &[Recipe], names: &[Name]) -> bool
-    requires rise { Rise (names_of items.now) }
+    requires rise { AreRising (names_of items.now) }
     requires count { length recipes.now ≡ length items.now }
     ensures { IsTrue result ↔ AreBootsIn items.now recipes.now names.now }
 {
@@ -120,7 +120,7 @@ fn are_boots(items: &[Item], recipes: &[Recipe], names: &[Name]) -> bool
 
 /// Whether the items meet the dependencies of their recipes, without a cycle.
 fn are_in_order(alloc: Global, items: &[Item], recipes: &[Recipe]) -> Result<bool, NoMemory>
-    requires rise { Rise (names_of items.now) }
+    requires rise { AreRising (names_of items.now) }
     requires few { length items.now ≤ 128 }
     requires count { length recipes.now ≡ length items.now }
     ensures { IfOk result (λ b. IsTrue b ↔ FitsTogether items.now recipes.now) }

@@ -4,7 +4,7 @@ ghost use Rattle.records.specs.Stored.{record_view, item_view};
 ghost use Rattle.records.specs.Stored as stored;
 ghost use Rattle.device.specs.Devices.{device_view, IsRegularDevice};
 ghost use Rattle.device.specs.Regularity.{IsRegularRecord};
-ghost use Rattle.device.specs.Rebuilt.{building_view, Began, Came, Finished, IsOrderly};
+ghost use Rattle.device.specs.Rebuilt.{building_view, BeginOutcome, NextOutcome, FinishOutcome, IsOrderly};
 ghost use Rattle.device.specs.Sound.{IsSound};
 
 use crate::closed::Closed;
@@ -33,7 +33,7 @@ pub(crate) struct Rebuilding {
 impl Rebuilding {
     /// Begins with a turn that counts no more than a device may have.
     pub(crate) fn begin(alloc: Global, entry: Record) -> Result<Rebuilding, RestoreFault>
-        ensures began { Began (record_view entry) result }
+        ensures began { BeginOutcome (record_view entry) result }
         ensures orderly { IfOk result (λ b. IsOrderly (building_view b)) }
     {
         let Record::Turned(_, origin, groups, items, closed) = entry else {
@@ -58,7 +58,7 @@ impl Rebuilding {
     }
 
     fn take_group(&mut self, alloc: Global, group: Group) -> Result<(), RestoreFault>
-        ensures { Came (stored.Grouped group) (building_view self.old) (building_view self.new) result }
+        ensures { NextOutcome (stored.Grouped group) (building_view self.old) (building_view self.new) result }
     {
         if self.groups_to_come == 0
             || self.groups.contains(&group.arn)
@@ -72,7 +72,7 @@ impl Rebuilding {
     }
 
     fn take_item(&mut self, item: Item) -> Result<(), RestoreFault>
-        ensures { Came (stored.Kept (item_view item)) (building_view self.old) (building_view self.new) result }
+        ensures { NextOutcome (stored.Kept (item_view item)) (building_view self.old) (building_view self.new) result }
     {
         if self.groups_to_come > 0 || self.items_to_come == 0 {
             return Err(RestoreFault::NotSound);
@@ -90,7 +90,7 @@ impl Rebuilding {
         id: Label,
         outcome: Outcome,
     ) -> Result<(), RestoreFault>
-        ensures { Came (stored.Ended id outcome) (building_view self.old) (building_view self.new) result }
+        ensures { NextOutcome (stored.Ended id outcome) (building_view self.old) (building_view self.new) result }
     {
         if self.groups_to_come > 0 || self.items_to_come > 0 || self.closed_to_come == 0 {
             return Err(RestoreFault::NotSound);
@@ -106,7 +106,7 @@ impl Rebuilding {
     pub(crate) fn take(&mut self, alloc: Global, entry: Record) -> Result<(), RestoreFault>
         requires regular { IsRegularRecord (record_view entry) }
         requires orderly { IsOrderly (building_view self.old) }
-        ensures came { Came (record_view entry) (building_view self.old) (building_view self.new) result }
+        ensures came { NextOutcome (record_view entry) (building_view self.old) (building_view self.new) result }
         ensures orderly { OnOk result (IsOrderly (building_view self.new)) }
     {
         match entry {
@@ -127,7 +127,7 @@ impl Rebuilding {
     /// The device, where all came and it runs such items.
     pub(crate) fn finish(self, alloc: Global) -> Result<Device, RestoreFault>
         requires { IsOrderly (building_view self) }
-        ensures finished { Finished (building_view self) result }
+        ensures finished { FinishOutcome (building_view self) result }
         ensures idle { IfOk result (λ d. d.pending ≡ None) }
         ensures regular { IfOk result (λ d. IsRegularDevice (device_view d)) }
         ensures sound { IfOk result (λ d. IsSound (device_view d)) }

@@ -1,7 +1,7 @@
 // The device for which a journal stands.
 ghost use Rattle.std.specs.Prelude.{◌≡◌, ◌≤◌, ◌<◌, ◌+◌, ◌&&◌, nat_lt, is_some, ℕ, List, None, IsTrue, IsErrOf, IfOk, OnOk};
 ghost use Rattle.nuc_base.specs.Faults.{Rose};
-ghost use Rattle.disk_model.specs.Disk.{Leaves};
+ghost use Rattle.disk_model.specs.Disk.{HasLeft};
 ghost use Rattle.gate_log.specs.Entries.{most_file};
 ghost use Rattle.gate_log.specs.Journal.{IsBehind};
 ghost use Rattle.gate_log.specs.Place.{IsEntryAt};
@@ -11,7 +11,7 @@ ghost use Rattle.device.specs.Limits.{room_of_plan};
 ghost use Rattle.device.specs.Rooms.{HasRoom, TakesRoom};
 ghost use Rattle.device.specs.Sound.{IsSound};
 ghost use Rattle.device.specs.Rebuilt.{building_view, IsOrderly};
-ghost use Rattle.device.specs.Standing.{BegunAt, CameEntry, CamePayload, Replayed, Took, TookEntry, TookFront, TurnOf, Walked, is_turned};
+ghost use Rattle.device.specs.Standing.{BegunAt, CameEntry, CamePayload, Replayed, TakeOutcome, TookEntry, TookFront, TurnOf, Walked, is_turned};
 
 use crate::device::Device;
 use crate::fault::{ApplyFault, ReplayFault, RestoreFault};
@@ -31,7 +31,7 @@ impl Device {
     /// Takes the record that the payload spells.
     #[tactic(auto, using(crate::proofs::Regular::writable))]
     pub(crate) fn take_payload(&mut self, alloc: Global, payload: &[u8]) -> Result<(), ApplyFault>
-        ensures took { Took (device_view self.old) payload.now (device_view self.new) result }
+        ensures took { TakeOutcome (device_view self.old) payload.now (device_view self.new) result }
         ensures regular { IsRegularDevice (device_view self.old) → IsRegularDevice (device_view self.new) }
         ensures sound { IsSound (device_view self.old) → IsSound (device_view self.new) }
     {
@@ -60,7 +60,7 @@ fn take_entry<J: Journal, D: Disk>(
     ensures sound { IsSound (device_view device.old) → IsSound (device_view device.new) }
     ensures room { IsSound (device_view device.old) → IfOk result (λ next. TakesRoom at next (device_view device.old) (device_view device.new)) }
     ensures seen { D.seen disk.new ≡ D.seen disk.old }
-    ensures moments { Leaves D.moment D.left_since disk.old disk.new (D.may_leave disk.old) }
+    ensures moments { HasLeft D.moment D.left_since disk.old disk.new (D.may_leave disk.old) }
     ensures cause { IsErrOf result ReplayFault.Disk → Rose (D.faults disk.old) (D.faults disk.new) }
     ensures quiet { ¬ (IsErrOf result ReplayFault.Disk) → D.faults disk.new ≡ D.faults disk.old }
     ensures later { D.faults disk.old ≤ D.faults disk.new }
@@ -105,7 +105,7 @@ fn take_front_entry<J: Journal, D: Disk>(
     ensures orderly { OnOk result (IsOrderly (building_view building.new)) }
     ensures goes_on { IfOk result (λ next. at < next) }
     ensures seen { D.seen disk.new ≡ D.seen disk.old }
-    ensures moments { Leaves D.moment D.left_since disk.old disk.new (D.may_leave disk.old) }
+    ensures moments { HasLeft D.moment D.left_since disk.old disk.new (D.may_leave disk.old) }
     ensures cause { IsErrOf result ReplayFault.Disk → Rose (D.faults disk.old) (D.faults disk.new) }
     ensures quiet { ¬ (IsErrOf result ReplayFault.Disk) → D.faults disk.new ≡ D.faults disk.old }
     ensures later { D.faults disk.old ≤ D.faults disk.new }
@@ -136,7 +136,7 @@ fn take_front<J: Journal, D: Disk>(
     ensures sound { IfOk result (λ r. IsSound (device_view r.0)) }
     ensures idle { IfOk result (λ r. r.0.pending ≡ None) }
     ensures seen { D.seen disk.new ≡ D.seen disk.old }
-    ensures moments { Leaves D.moment D.left_since disk.old disk.new (D.may_leave disk.old) }
+    ensures moments { HasLeft D.moment D.left_since disk.old disk.new (D.may_leave disk.old) }
     ensures cause { IsErrOf result ReplayFault.Disk → Rose (D.faults disk.old) (D.faults disk.new) }
     ensures quiet { ¬ (IsErrOf result ReplayFault.Disk) → D.faults disk.new ≡ D.faults disk.old }
     ensures later { D.faults disk.old ≤ D.faults disk.new }
@@ -188,7 +188,7 @@ fn begin<J: Journal, D: Disk>(
     ensures sound { IfOk result (λ r. IsSound (device_view r.0)) }
     ensures idle { IfOk result (λ r. r.0.pending ≡ None) }
     ensures seen { D.seen disk.new ≡ D.seen disk.old }
-    ensures moments { Leaves D.moment D.left_since disk.old disk.new (D.may_leave disk.old) }
+    ensures moments { HasLeft D.moment D.left_since disk.old disk.new (D.may_leave disk.old) }
     ensures cause { IsErrOf result ReplayFault.Disk → Rose (D.faults disk.old) (D.faults disk.new) }
     ensures quiet { ¬ (IsErrOf result ReplayFault.Disk) → D.faults disk.new ≡ D.faults disk.old }
     ensures later { D.faults disk.old ≤ D.faults disk.new }
@@ -229,7 +229,7 @@ pub fn replay<J: Journal, D: Disk>(
     ensures sound { IfOk result (λ d. IsSound (device_view d)) }
     ensures room { IfOk result (λ d. HasRoom (J.end log.now) (device_view d)) }
     ensures seen { D.seen disk.new ≡ D.seen disk.old }
-    ensures moments { Leaves D.moment D.left_since disk.old disk.new (D.may_leave disk.old) }
+    ensures moments { HasLeft D.moment D.left_since disk.old disk.new (D.may_leave disk.old) }
     ensures cause { IsErrOf result ReplayFault.Disk → Rose (D.faults disk.old) (D.faults disk.new) }
     ensures quiet { ¬ (IsErrOf result ReplayFault.Disk) → D.faults disk.new ≡ D.faults disk.old }
     ensures later { D.faults disk.old ≤ D.faults disk.new }

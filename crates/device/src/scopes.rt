@@ -2,7 +2,7 @@
 ghost use Rattle.std.specs.Prelude.{◌≡◌, map, IfOk};
 ghost use Rattle.std.specs.List.{list_any};
 ghost use Rattle.std.specs.Str.{bytes_eq};
-ghost use Rattle.recipe_reader.specs.OneRecipe.{Reads};
+ghost use Rattle.recipe_reader.specs.OneRecipe.{IsRecipeFor};
 ghost use Rattle.records.specs.Stored.{item_view};
 ghost use Rattle.device.specs.Plans.{AreRegularItems, HasSomeRecipe};
 ghost use Rattle.device.specs.Scopes.{IsScopeOf, HasScope, needed_at, ArePlacesAt, AddsNeeded, IsScopeBy};
@@ -18,7 +18,7 @@ use std::alloc::Global;
 /// The recipe of an item that has one.
 fn known_recipe(alloc: Global, platform: &Platform, item: &Item) -> Result<Recipe, NoMemory>
     requires { HasSomeRecipe platform.now item.now.recipe }
-    ensures { IfOk result (Reads item.now.recipe platform.now) }
+    ensures { IfOk result (IsRecipeFor item.now.recipe platform.now) }
 {
     match recipe_in(alloc, platform, item.recipe.as_slice())? {
         Some(recipe) => Ok(recipe),

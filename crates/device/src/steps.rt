@@ -2,9 +2,9 @@
 ghost use Rattle.std.specs.Prelude.{◌≡◌, ◌≢◌, ◌↔◌, ◌≤◌, ◌<◌, length, IsTrue, map, is_some, option_map, true, position, nat_eq, slice_get, take, None, Some};
 ghost use Rattle.std.specs.Prelude.{[], List, ℕ};
 ghost use Rattle.device.specs.Devices.{pending_view, chosen};
-ghost use Rattle.device.specs.Does.{Does};
+ghost use Rattle.device.specs.Does.{HasActed};
 ghost use Rattle.device.specs.Lawful.{MayBegin, MayEnd, MayActivate, MayFail, MayBreak, MayGoBack, MayClose, begun, boot_ended, one_ended, has_gone_back};
-ghost use Rattle.device.specs.Lawful.{moved_on, activated, count_failure, rolled, turned_to, turned_back, next_boot, failing_name, broken_name, reach_of};
+ghost use Rattle.device.specs.Lawful.{moved_on, activated, count_failure, rolled, sent_to, sent_back, next_boot, failing_name, broken_name, reach_of};
 ghost use Rattle.device.specs.Lawful.{broken, goes_on, takes_plan, MayCount, counted, running, failing_place};
 ghost use Rattle.records.specs.Stored.{item_view};
 
@@ -70,7 +70,7 @@ fn is_name(found: Option<&Name>, name: &Name) -> bool
 }
 
 pub(crate) fn begin(pending: &mut Pending, name: &Name) -> Result<(), ApplyFault>
-    ensures { Does (MayBegin name.now (pending_view pending.old)) (begun (pending_view pending.old)) (pending_view pending.old) (pending_view pending.new)
+    ensures { HasActed (MayBegin name.now (pending_view pending.old)) (begun (pending_view pending.old)) (pending_view pending.old) (pending_view pending.new)
         result }
 {
     if !pending.boot_failed && is_name(next_of(pending), name) && !pending.begun {
@@ -117,7 +117,7 @@ pub(crate) fn move_on(pending: &mut Pending)
 }
 
 pub(crate) fn end(pending: &mut Pending, name: &Name, exit: Exit) -> Result<(), ApplyFault>
-    ensures { Does (MayEnd name.now (pending_view pending.old)) (boot_ended exit (pending_view pending.old)) (pending_view pending.old)
+    ensures { HasActed (MayEnd name.now (pending_view pending.old)) (boot_ended exit (pending_view pending.old)) (pending_view pending.old)
         (pending_view pending.new) result }
 {
     if !pending.boot_failed && is_name(next_of(pending), name) && pending.begun {
@@ -133,7 +133,7 @@ pub(crate) fn end(pending: &mut Pending, name: &Name, exit: Exit) -> Result<(), 
 }
 
 pub(crate) fn activate(pending: &mut Pending) -> Result<(), ApplyFault>
-    ensures { Does (MayActivate (pending_view pending.old)) (activated (pending_view pending.old)) (pending_view pending.old) (pending_view pending.new)
+    ensures { HasActed (MayActivate (pending_view pending.old)) (activated (pending_view pending.old)) (pending_view pending.old) (pending_view pending.new)
         result }
 {
     if pending.stage == Stage::Booting && !pending.boot_failed && next_of(pending).is_none() {
@@ -153,7 +153,7 @@ pub fn broken_of(failures: &[u8; 128]) -> Option<usize>
 }
 
 fn count(pending: &mut Pending, at: Option<usize>) -> Result<(), ApplyFault>
-    ensures { Does (MayCount (pending_view pending.old) at) (counted at (pending_view pending.old)) (pending_view pending.old) (pending_view pending.new)
+    ensures { HasActed (MayCount (pending_view pending.old) at) (counted at (pending_view pending.old)) (pending_view pending.old) (pending_view pending.new)
         result }
 {
     let Some(at) = at else {
@@ -185,7 +185,7 @@ pub(crate) fn fail(
     step: Step,
     exit: Exit,
 ) -> Result<(), ApplyFault>
-    ensures { Does (MayFail (map item_view set.now) name.now step exit (pending_view pending.old))
+    ensures { HasActed (MayFail (map item_view set.now) name.now step exit (pending_view pending.old))
         (count_failure (map item_view set.now) name.now (pending_view pending.old)) (pending_view pending.old) (pending_view pending.new) result }
 {
     if !matches!(step, Step::Install | Step::Run | Step::Startup) || exit == Exit::Code(0) {
@@ -226,7 +226,7 @@ fn may_break(pending: &Pending, name: &Name) -> bool
 }
 
 pub(crate) fn break_off(pending: &mut Pending, name: &Name) -> Result<(), ApplyFault>
-    ensures { Does (MayBreak name.now (pending_view pending.old)) (rolled (pending_view pending.old)) (pending_view pending.old) (pending_view pending.new)
+    ensures { HasActed (MayBreak name.now (pending_view pending.old)) (rolled (pending_view pending.old)) (pending_view pending.old) (pending_view pending.new)
         result }
 {
     if may_break(pending, name) {
@@ -250,9 +250,9 @@ fn reach_of(pending: &Pending) -> u32
 }
 
 /// The way back begins with the bootstrap steps that have a flag.
-pub(crate) fn turn_back(pending: &mut Pending, flags: &[bool; 128])
+pub(crate) fn send_back(pending: &mut Pending, flags: &[bool; 128])
     requires { is_some (failing_name (pending_view pending.old)) ≡ true }
-    ensures { pending_view pending.new ≡ turned_to (chosen flags.now (take (reach_of (pending_view pending.old)) pending.old.plan.boots))
+    ensures { pending_view pending.new ≡ sent_to (chosen flags.now (take (reach_of (pending_view pending.old)) pending.old.plan.boots))
         (pending_view pending.old) }
 {
     pending.reach = reach_of(pending);
@@ -281,8 +281,8 @@ pub(crate) fn go_back(
     pending: &mut Pending,
     name: &Name,
 ) -> Result<(), ApplyFault>
-    ensures { Does (MayGoBack origin.now (map item_view set.now) name.now (pending_view pending.old))
-        (turned_back origin.now (map item_view set.now) (pending_view pending.old)) (pending_view pending.old) (pending_view pending.new) result }
+    ensures { HasActed (MayGoBack origin.now (map item_view set.now) name.now (pending_view pending.old))
+        (sent_back origin.now (map item_view set.now) (pending_view pending.old)) (pending_view pending.old) (pending_view pending.new) result }
 {
     let Some(origin) = origin else {
         return Err(ApplyFault::NotLawful);
@@ -304,7 +304,7 @@ pub(crate) fn go_back(
     if !has_flag(pending, &flags) {
         return Err(ApplyFault::NotLawful);
     }
-    turn_back(pending, &flags);
+    send_back(pending, &flags);
     Ok(())
 }
 

@@ -1,6 +1,6 @@
 -- What one call more in the record tells.
 use Rattle.std.proofs.Common.{◌≡◌, ℕ, ◌≤◌, min, List, [], ◌∷◌, ◌++◌, length, take, Result, Ok, Err, OnOk, OnErr, is_ok, ◌↔◌, refl, sym, ◌∙◌, ap, subst, arith}
-use Rattle.disk_model.specs.Disk.{Image, Holds, Torn, Cut, Step, After, Settled, Leaves}
+use Rattle.disk_model.specs.Disk.{Image, IsPutAt, Torn, Cut, Step, IsAfter, Settled, HasLeft}
 use Rattle.disk_model.specs.Files.{image_of}
 use Rattle.disk_model.specs.Memory.{seen_by, left_by, left_since_by, moment_by, Changed, Stable, Unchanged}
 use Rattle.disk_model.specs.Put.{put, overwritten}
@@ -79,15 +79,16 @@ module _ (old new : MemoryDisk) (start : image_of new.start ≡ image_of old.sta
     seen_now = seen_same ∙ seen-pushed old.calls.items new.calls.items call (image_of old.start) is
 
   pub wrote : (file : List ℕ) (at : ℕ) (bytes : List ℕ) → at ≤ length (seen_by old file) → new.calls.items ≡ old.calls.items ++ Written file at bytes ∷ []
-      → Changed file (Holds at bytes) (Torn at (length bytes)) old new
+      → Changed file (IsPutAt at bytes) (Torn at (length bytes)) old new
   wrote file at bytes le is =
       let place : min at (length (seen_by old file)) ≡ at = omega arith in
       let now = left_now (Written file at bytes) is in
       record {
-        reads = put_step file (overwritten at bytes (seen_by old file)) (seen_by old) (seen_by new) (Holds at bytes) (seen_now (Written file at bytes) is) refl;
+        reads = put_step file (overwritten at bytes (seen_by old file)) (seen_by old) (seen_by new) (IsPutAt at bytes)
+            (seen_now (Written file at bytes) is) refl;
         leaves = λ c. (
-          λ left. subst (λ (n : ℕ). After (left_by old) (Step file (Torn n (length bytes))) c) place ((now c).0 left),
-          λ was. (now c).1 (subst (λ (n : ℕ). After (left_by old) (Step file (Torn n (length bytes))) c) (sym place) was),
+          λ left. subst (λ (n : ℕ). IsAfter (left_by old) (Step file (Torn n (length bytes))) c) place ((now c).0 left),
+          λ was. (now c).1 (subst (λ (n : ℕ). IsAfter (left_by old) (Step file (Torn n (length bytes))) c) (sym place) was),
         );
       }
 
@@ -116,7 +117,7 @@ module _ (old new : MemoryDisk) (start : image_of new.start ≡ image_of old.sta
       → ((c : Image) → left_by old c → P c)
       → ((c : Image) → images_step call (seen_by old) (left_by old) c → P c)
       → OnOk r (new.calls.items ≡ old.calls.items ++ call ∷ []) → OnErr r (new.calls.items ≡ old.calls.items)
-      → Leaves moment_by left_since_by old new P
+      → HasLeft moment_by left_since_by old new P
   moments (Ok v) call P before after next _ = leaves_push (λ (d : MemoryDisk). d.calls.items) (λ d. image_of d.start) old new call P next start before after
   moments (Err e) call P before after _ none =
       let leaves = leaves_same (λ (d : MemoryDisk). d.calls.items) (λ d. image_of d.start) old new none start in

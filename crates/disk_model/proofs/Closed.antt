@@ -5,7 +5,7 @@ use Rattle.std.specs.Str.{bytes_eq}
 use Rattle.std.proofs.lemmas.Bool.{cases_lt}
 use Rattle.std.proofs.lemmas.List.{ext_get_or, get_or-take, get_or-drop}
 use Rattle.std.proofs.lemmas.Slice.Eq.{bytes_eq-Decides}
-use Rattle.disk_model.specs.Disk.{Image, Torn, Cut, Step, After}
+use Rattle.disk_model.specs.Disk.{Image, Torn, Cut, Step, IsAfter}
 use Rattle.disk_model.specs.Crash.{Unsynced, stable, MayHold, resized, rewritten, unsynced_step, unsynced_after, all_stable}
 use Rattle.disk_model.specs.Put.{put, overwritten}
 use Rattle.disk_model.specs.Record.{seen_step, images_step, images_after, left_after}
@@ -101,8 +101,9 @@ module _ (u : Unsynced) (seen : ℕ) (low : u.least ≤ seen) (high : seen ≤ u
         before = ext_get_or 0 (take at c) (take at (table value size))
             (omega (arith, length-take at c, length-take at (table value size), length-table value size, high))
             (λ i lt.
-            let front : i < at = omega (arith, length-take at c) in
-            get_or-take at c i 0 front ∙ before_at i (omega (arith, length-take at c, high)) (inl front) ∙ sym (get_or-take at (table value size) i 0 front));
+            let prefix : i < at = omega (arith, length-take at c) in
+            get_or-take at c i 0 prefix ∙ before_at i (omega (arith, length-take at c, high)) (inl prefix)
+            ∙ sym (get_or-take at (table value size) i 0 prefix));
         after = ext_get_or 0 (drop (at + n) c) (drop (at + n) (table value size))
             (omega (arith, length-drop (at + n) c, length-drop (at + n) (table value size), length-table value size, high, may.no_longer, is))
             (λ i lt.
@@ -116,11 +117,11 @@ module _ (u : Unsynced) (seen : ℕ) (low : u.least ≤ seen) (high : seen ≤ u
   cut_sound len n is b c may cut = record {
     no_shorter = omega (arith, may.no_shorter, cut.no_shorter, is, low);
     no_longer = omega (arith, may.no_longer, shorter);
-    stays = λ i lt firm. ap (λ (l : List ℕ). get_or l i 0) cut.front ∙ get_or-take (length c) b i 0 lt ∙ may.stays i (omega (arith, shorter)) firm;
+    stays = λ i lt firm. ap (λ (l : List ℕ). get_or l i 0) cut.prefix ∙ get_or-take (length c) b i 0 lt ∙ may.stays i (omega (arith, shorter)) firm;
   }
     where
       shorter : length c ≤ length b
-      shorter = omega (arith, ap length cut.front, length-take (length c) b)
+      shorter = omega (arith, ap length cut.prefix, length-take (length c) b)
 
   pub cut_complete : (len n : ℕ) → len ≡ min n seen → (c : List ℕ) → MayHold (resized len u) c → (b : List ℕ) × MayHold u b × Cut n b c
   cut_complete len n is c may = (table value size, held, cut)
@@ -145,7 +146,7 @@ module _ (u : Unsynced) (seen : ℕ) (low : u.least ≤ seen) (high : seen ≤ u
       cut : Cut n (table value size) c
       cut = record {
         no_shorter = omega (arith, length-table value size, may.no_shorter, is, low);
-        front = ext_get_or 0 c (take (length c) (table value size)) (omega (arith, length-take (length c) (table value size), length-table value size))
+        prefix = ext_get_or 0 c (take (length c) (table value size)) (omega (arith, length-take (length c) (table value size), length-table value size))
             (λ i lt. sym (get_or-take (length c) (table value size) i 0 lt ∙ get_or-table value size i (omega arith)
             ∙ pick_out i (length c) u.least (cases_lt i (length c)) (cases_lt i (length c + u.least)) (get_or c i 0) (get_or u.held i 0) (inl lt)));
       }
@@ -201,7 +202,7 @@ Says images of = (c : Image) → images c ↔ ((name : List ℕ) → MayHold (of
 change_says : (images : Image → Type 0) (of : List ℕ → Unsynced) (file : List ℕ) (u : Unsynced) (change : List ℕ → List ℕ → Type 0)
     → ((b c : List ℕ) → MayHold (of file) b → change b c → MayHold u c)
     → ((c : List ℕ) → MayHold u c → (b : List ℕ) × MayHold (of file) b × change b c)
-    → Says images of → Says (After images (Step file change)) (λ name. if bytes_eq name file then u else of name)
+    → Says images of → Says (IsAfter images (Step file change)) (λ name. if bytes_eq name file then u else of name)
 change_says images of file u change sound complete says c = (
   λ was name. at_name (λ (v : Unsynced). MayHold v (c name)) file u of name
       (λ same. subst (λ (n : List ℕ). MayHold u (c n)) (sym same) (sound (was.0 file) (c file) ((says was.0).0 was.1 file) was.2.here))

@@ -4,7 +4,7 @@ use Rattle.std.proofs.lemmas.List.{drop-drop}
 use Rattle.disk_model.specs.Disk.{Torn, Cut}
 
 pub cut_wider : (n m : ℕ) → n ≤ m → (a b : List ℕ) → Cut m a b → Cut n a b
-cut_wider n m le a b cut = record { no_shorter = omega (arith, cut.no_shorter); front = cut.front }
+cut_wider n m le a b cut = record { no_shorter = omega (arith, cut.no_shorter); prefix = cut.prefix }
 
 pub torn_wider : (at m n : ℕ) → m ≤ n → (a b : List ℕ) → Torn at m a b → Torn at n a b
 torn_wider at m n le a b torn = record {

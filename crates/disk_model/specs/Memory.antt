@@ -1,6 +1,6 @@
 -- What the calls of a disk in memory do, exactly.
 use Rattle.std.specs.Prelude.{◌≡◌, ◌↔◌, List, ℕ, length}
-use Rattle.disk_model.specs.Disk.{Image, Step, After}
+use Rattle.disk_model.specs.Disk.{Image, Step, IsAfter}
 use Rattle.disk_model.specs.Files.{image_of}
 use Rattle.disk_model.specs.Record.{seen_after, left_after, left_from}
 use Rattle.disk_model.specs.declared.memory.MemoryDisk.{MemoryDisk}
@@ -27,7 +27,7 @@ faults_by d = d.faults
 -- one file reads as changed in this way, and a crash may leave of it what this allows: no more, and no less
 pub record Changed (file : List ℕ) (reads_as may_leave : List ℕ → List ℕ → Type 0) (old new : MemoryDisk) : Type 0 where
   pub reads : Step file reads_as (seen_by old) (seen_by new)
-  pub leaves : (c : Image) → left_by new c ↔ After (left_by old) (Step file may_leave) c
+  pub leaves : (c : Image) → left_by new c ↔ IsAfter (left_by old) (Step file may_leave) c
 
 -- one file is stable
 pub record Stable (file : List ℕ) (old new : MemoryDisk) : Type 0 where

@@ -1,6 +1,6 @@
 -- What a record of calls tells: what the files read as after it, and which images a crash may leave.
 use Rattle.std.specs.Prelude.{◌≡◌, ℕ, ◌≤◌, min, List, [], ◌∷◌, ◌++◌, length, take}
-use Rattle.disk_model.specs.Disk.{Image, Torn, Cut, Step, After}
+use Rattle.disk_model.specs.Disk.{Image, Torn, Cut, Step, IsAfter}
 use Rattle.disk_model.specs.Put.{put, overwritten}
 use Rattle.disk_model.specs.declared.record.Call.{Call}
 use Rattle.disk_model.specs.declared.record.Call.TheVariants.{Write as Written, Cut as CutTo, Sync as Synced}
@@ -13,8 +13,8 @@ seen_step (Synced file) image = image
 
 -- what a call makes of the images that a crash may leave, where this is what is read before it
 abbrev pub images_step : Call → Image → (Image → Type 0) → Image → Type 0
-images_step (Written file at bytes) image images = After images (Step file (Torn (min at (length (image file))) (length bytes)))
-images_step (CutTo file n) image images = After images (Step file (Cut n))
+images_step (Written file at bytes) image images = IsAfter images (Step file (Torn (min at (length (image file))) (length bytes)))
+images_step (CutTo file n) image images = IsAfter images (Step file (Cut n))
 images_step (Synced file) image images = λ c. images c × (c file ≡ image file)
 
 abbrev pub seen_after : List Call → Image → Image

@@ -1,6 +1,6 @@
 ghost use Rattle.std.specs.Prelude.{◌≡◌, ◌+◌, ◌≤◌, ◌++◌, [], min, ℕ, Bool, List, IsTrue, IsErrOf, length, take, drop, IfOk, OnOk};
 ghost use Rattle.nuc_base.specs.Faults.{HasCause, Rose};
-ghost use Rattle.disk_model.specs.Disk.{Image, Holds, Torn, Cut, Step, After, Settled, Leaves, DiskLaws};
+ghost use Rattle.disk_model.specs.Disk.{Image, IsPutAt, Torn, Cut, Step, IsAfter, Settled, HasLeft, DiskLaws};
 ghost use Rattle.disk_model.specs.Listing.{artifacts, IsListing};
 
 use nuc_base::{FileName, List, NoMemory};
@@ -73,7 +73,7 @@ pub trait Disk {
     fn length(&mut self, file: &str) -> Result<u64, DiskFault>
         ensures told { IsTrue is_modelled → IfOk result (λ n. n ≡ length (seen self.old file.now)) }
         ensures seen { seen self.new ≡ seen self.old }
-        ensures moments { Leaves moment left_since self.old self.new (may_leave self.old) }
+        ensures moments { HasLeft moment left_since self.old self.new (may_leave self.old) }
         ensures cause { HasCause (faults self.old) (faults self.new) result }
         ensures quiet { OnOk result (faults self.new ≡ faults self.old) };
 
@@ -84,23 +84,23 @@ pub trait Disk {
             (n ≡ min (length into.old) (length (drop at (seen self.old file.now))))
             × (into.new ≡ take n (drop at (seen self.old file.now)) ++ drop n into.old)) }
         ensures seen { seen self.new ≡ seen self.old }
-        ensures moments { Leaves moment left_since self.old self.new (may_leave self.old) }
+        ensures moments { HasLeft moment left_since self.old self.new (may_leave self.old) }
         ensures cause { HasCause (faults self.old) (faults self.new) result }
         ensures quiet { OnOk result (faults self.new ≡ faults self.old) };
 
     /// Writes over what is there and past the end. Until a sync, a crash may leave any bytes in the range.
     fn write_at(&mut self, file: &str, at: u64, bytes: &[u8]) -> Result<(), DiskFault>
         requires { IsTrue is_modelled → at ≤ length (seen self.old file.now) }
-        ensures told { IsTrue is_modelled → Step file.now (λ old new. OnOk result (Holds at bytes.now old new)) (seen self.old) (seen self.new) }
-        ensures moments { Leaves moment left_since self.old self.new (After (may_leave self.old) (Step file.now (Torn at (length bytes.now)))) }
+        ensures told { IsTrue is_modelled → Step file.now (λ old new. OnOk result (IsPutAt at bytes.now old new)) (seen self.old) (seen self.new) }
+        ensures moments { HasLeft moment left_since self.old self.new (IsAfter (may_leave self.old) (Step file.now (Torn at (length bytes.now)))) }
         ensures cause { HasCause (faults self.old) (faults self.new) result }
         ensures quiet { OnOk result (faults self.new ≡ faults self.old) };
 
-    /// Keeps the first bytes of the file. Until a sync, a crash may leave any front of it that is no shorter.
+    /// Keeps the first bytes of the file. Until a sync, a crash may leave any prefix of it that is no shorter.
     fn cut(&mut self, file: &str, len: u64) -> Result<(), DiskFault>
         requires { IsTrue is_modelled → len ≤ length (seen self.old file.now) }
         ensures told { IsTrue is_modelled → Step file.now (λ old new. OnOk result (new ≡ take len old)) (seen self.old) (seen self.new) }
-        ensures moments { Leaves moment left_since self.old self.new (After (may_leave self.old) (Step file.now (Cut len))) }
+        ensures moments { HasLeft moment left_since self.old self.new (IsAfter (may_leave self.old) (Step file.now (Cut len))) }
         ensures cause { HasCause (faults self.old) (faults self.new) result }
         ensures quiet { OnOk result (faults self.new ≡ faults self.old) };
 
@@ -108,14 +108,14 @@ pub trait Disk {
     fn sync(&mut self, file: &str) -> Result<(), DiskFault>
         ensures durable { OnOk result (Settled (may_leave self.new) file.now (seen self.new file.now)) }
         ensures seen { seen self.new ≡ seen self.old }
-        ensures moments { Leaves moment left_since self.old self.new (may_leave self.old) }
+        ensures moments { HasLeft moment left_since self.old self.new (may_leave self.old) }
         ensures cause { HasCause (faults self.old) (faults self.new) result }
         ensures quiet { OnOk result (faults self.new ≡ faults self.old) };
 
-    /// Leaves the file empty, which is the same as absent. Until a sync, a crash may leave any front of it.
+    /// Leaves the file empty, which is the same as absent. Until a sync, a crash may leave any prefix of it.
     fn remove(&mut self, file: &str) -> Result<(), DiskFault>
         ensures told { IsTrue is_modelled → Step file.now (λ _ new. OnOk result (new ≡ [])) (seen self.old) (seen self.new) }
-        ensures moments { Leaves moment left_since self.old self.new (After (may_leave self.old) (Step file.now (Cut 0))) }
+        ensures moments { HasLeft moment left_since self.old self.new (IsAfter (may_leave self.old) (Step file.now (Cut 0))) }
         ensures cause { HasCause (faults self.old) (faults self.new) result }
         ensures quiet { OnOk result (faults self.new ≡ faults self.old) };
 
@@ -123,7 +123,7 @@ pub trait Disk {
     fn list(&mut self, alloc: Global) -> Result<List<FileName>, ListFault>
         ensures told { IsTrue is_modelled → IfOk result (λ names. IsListing artifacts (seen self.old) names) }
         ensures seen { seen self.new ≡ seen self.old }
-        ensures moments { Leaves moment left_since self.old self.new (may_leave self.old) }
+        ensures moments { HasLeft moment left_since self.old self.new (may_leave self.old) }
         ensures cause { IsErrOf result ListFault.Disk → Rose (faults self.old) (faults self.new) }
         ensures later { faults self.old ≤ faults self.new }
         ensures quiet { ¬ (IsErrOf result ListFault.Disk) → faults self.new ≡ faults self.old };

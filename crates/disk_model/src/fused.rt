@@ -48,7 +48,7 @@ impl FusedDisk {
 }
 
 impl Disk for FusedDisk {
-    ghost use Rattle.disk_model.specs.Disk.{Holds, Torn, Cut, Step, After, Settled, Leaves};
+    ghost use Rattle.disk_model.specs.Disk.{IsPutAt, Torn, Cut, Step, IsAfter, Settled, HasLeft};
     ghost use Rattle.disk_model.specs.Fuse.{IsCounted, middle};
     ghost use Rattle.disk_model.specs.Fused.{inside, fuse_of, IsDue, InsideFailed, fused_seen, fused_left, fused_left_since, fused_moment, fused_faults};
     ghost use Rattle.disk_model.specs.Laws.Inside.{laws_inside};
@@ -77,7 +77,7 @@ impl Disk for FusedDisk {
         ensures same { inside self.new ≡ inside self.old }
         ensures told { IfOk result (λ n. n ≡ length (fused_seen self.old file.now)) }
         ensures seen { fused_seen self.new ≡ fused_seen self.old }
-        ensures moments { Leaves fused_moment fused_left_since self.old self.new (fused_left self.old) }
+        ensures moments { HasLeft fused_moment fused_left_since self.old self.new (fused_left self.old) }
         ensures cause { HasCause (fused_faults self.old) (fused_faults self.new) result }
         ensures quiet { OnOk result (fused_faults self.new ≡ fused_faults self.old) }
     {
@@ -98,7 +98,7 @@ impl Disk for FusedDisk {
             × (into.new ≡ take n (drop at (fused_seen self.old file.now)) ++ drop n into.old)) }
         ensures untouched { OnErr result (into.new ≡ into.old) }
         ensures seen { fused_seen self.new ≡ fused_seen self.old }
-        ensures moments { Leaves fused_moment fused_left_since self.old self.new (fused_left self.old) }
+        ensures moments { HasLeft fused_moment fused_left_since self.old self.new (fused_left self.old) }
         ensures cause { HasCause (fused_faults self.old) (fused_faults self.new) result }
         ensures quiet { OnOk result (fused_faults self.new ≡ fused_faults self.old) }
     {
@@ -113,12 +113,12 @@ impl Disk for FusedDisk {
         ensures due { IsDue self.old → IsErr result }
         ensures only { OnErr result (IsDue self.old ⊎ InsideFailed self.old self.new) }
         ensures counted { IsCounted (fuse_of self.old) (fuse_of self.new) }
-        ensures ok { OnOk result (Changed file.now (Holds at bytes.now) (Torn at (length bytes.now)) (inside self.old) (inside self.new)) }
+        ensures ok { OnOk result (Changed file.now (IsPutAt at bytes.now) (Torn at (length bytes.now)) (inside self.old) (inside self.new)) }
         // A failing write leaves the first half of its bytes, and nothing of that is stable.
         ensures half { IsDue self.old → ¬ (InsideFailed self.old self.new) →
-            Changed file.now (Holds at (take (length bytes.now / 2) bytes.now)) (Torn at (length bytes.now / 2)) (inside self.old) (inside self.new) }
-        ensures told { Step file.now (λ old new. OnOk result (Holds at bytes.now old new)) (fused_seen self.old) (fused_seen self.new) }
-        ensures moments { Leaves fused_moment fused_left_since self.old self.new (After (fused_left self.old) (Step file.now (Torn at (length bytes.now)))) }
+            Changed file.now (IsPutAt at (take (length bytes.now / 2) bytes.now)) (Torn at (length bytes.now / 2)) (inside self.old) (inside self.new) }
+        ensures told { Step file.now (λ old new. OnOk result (IsPutAt at bytes.now old new)) (fused_seen self.old) (fused_seen self.new) }
+        ensures moments { HasLeft fused_moment fused_left_since self.old self.new (IsAfter (fused_left self.old) (Step file.now (Torn at (length bytes.now)))) }
         ensures cause { HasCause (fused_faults self.old) (fused_faults self.new) result }
         ensures quiet { OnOk result (fused_faults self.new ≡ fused_faults self.old) }
     {
@@ -139,7 +139,7 @@ impl Disk for FusedDisk {
         ensures half { IsDue self.old → ¬ (InsideFailed self.old self.new) → let reached = middle (length (fused_seen self.old file.now)) len in
             Changed file.now (λ old new. new ≡ take reached old) (Cut reached) (inside self.old) (inside self.new) }
         ensures told { Step file.now (λ old new. OnOk result (new ≡ take len old)) (fused_seen self.old) (fused_seen self.new) }
-        ensures moments { Leaves fused_moment fused_left_since self.old self.new (After (fused_left self.old) (Step file.now (Cut len))) }
+        ensures moments { HasLeft fused_moment fused_left_since self.old self.new (IsAfter (fused_left self.old) (Step file.now (Cut len))) }
         ensures cause { HasCause (fused_faults self.old) (fused_faults self.new) result }
         ensures quiet { OnOk result (fused_faults self.new ≡ fused_faults self.old) }
     {
@@ -158,7 +158,7 @@ impl Disk for FusedDisk {
         ensures none { IsDue self.old → inside self.new ≡ inside self.old }
         ensures durable { OnOk result (Settled (fused_left self.new) file.now (fused_seen self.new file.now)) }
         ensures seen { fused_seen self.new ≡ fused_seen self.old }
-        ensures moments { Leaves fused_moment fused_left_since self.old self.new (fused_left self.old) }
+        ensures moments { HasLeft fused_moment fused_left_since self.old self.new (fused_left self.old) }
         ensures cause { HasCause (fused_faults self.old) (fused_faults self.new) result }
         ensures quiet { OnOk result (fused_faults self.new ≡ fused_faults self.old) }
     {
@@ -177,7 +177,7 @@ impl Disk for FusedDisk {
         ensures half { IsDue self.old → ¬ (InsideFailed self.old self.new) → let reached = middle (length (fused_seen self.old file.now)) 0 in
             Changed file.now (λ old new. new ≡ take reached old) (Cut reached) (inside self.old) (inside self.new) }
         ensures told { Step file.now (λ _ new. OnOk result (new ≡ [])) (fused_seen self.old) (fused_seen self.new) }
-        ensures moments { Leaves fused_moment fused_left_since self.old self.new (After (fused_left self.old) (Step file.now (Cut 0))) }
+        ensures moments { HasLeft fused_moment fused_left_since self.old self.new (IsAfter (fused_left self.old) (Step file.now (Cut 0))) }
         ensures cause { HasCause (fused_faults self.old) (fused_faults self.new) result }
         ensures quiet { OnOk result (fused_faults self.new ≡ fused_faults self.old) }
     {
@@ -195,7 +195,7 @@ impl Disk for FusedDisk {
         ensures same { inside self.new ≡ inside self.old }
         ensures told { IfOk result (λ names. IsListing artifacts (fused_seen self.old) names) }
         ensures seen { fused_seen self.new ≡ fused_seen self.old }
-        ensures moments { Leaves fused_moment fused_left_since self.old self.new (fused_left self.old) }
+        ensures moments { HasLeft fused_moment fused_left_since self.old self.new (fused_left self.old) }
         ensures cause { IsErrOf result ListFault.Disk → Rose (fused_faults self.old) (fused_faults self.new) }
         ensures later { fused_faults self.old ≤ fused_faults self.new }
         ensures quiet { ¬ (IsErrOf result ListFault.Disk) → fused_faults self.new ≡ fused_faults self.old }

@@ -1,7 +1,7 @@
 // A cut that goes half way.
 ghost use Rattle.std.specs.Prelude.{◌≡◌, ◌≤◌, ⊤, length, take, OnOk};
 ghost use Rattle.nuc_base.specs.Faults.{HasCause};
-ghost use Rattle.disk_model.specs.Disk.{Cut, Step, After, Leaves};
+ghost use Rattle.disk_model.specs.Disk.{Cut, Step, IsAfter, HasLeft};
 ghost use Rattle.disk_model.specs.Fuse.{middle};
 ghost use Rattle.disk_model.specs.Memory.{seen_by, left_by, left_since_by, moment_by, faults_by, Changed};
 
@@ -14,7 +14,7 @@ pub fn cut_half(disk: &mut MemoryDisk, file: &str, len: u64) -> Result<(), DiskF
     ensures ok { OnOk result (let reached = middle (length (seen_by disk.old file.now)) len in
         Changed file.now (λ old new. new ≡ take reached old) (Cut reached) disk.old disk.new) }
     ensures told { Step file.now (λ old new. ⊤) (seen_by disk.old) (seen_by disk.new) }
-    ensures moments { Leaves moment_by left_since_by disk.old disk.new (After (left_by disk.old) (Step file.now (Cut len))) }
+    ensures moments { HasLeft moment_by left_since_by disk.old disk.new (IsAfter (left_by disk.old) (Step file.now (Cut len))) }
     ensures cause { HasCause (faults_by disk.old) (faults_by disk.new) result }
 {
     let old = disk.file(file).len() as u64;

@@ -88,7 +88,7 @@ impl MemoryDisk {
 }
 
 impl Disk for MemoryDisk {
-    ghost use Rattle.disk_model.specs.Disk.{Holds, Torn, Cut, Step, After, Settled, Leaves};
+    ghost use Rattle.disk_model.specs.Disk.{IsPutAt, Torn, Cut, Step, IsAfter, Settled, HasLeft};
     ghost use Rattle.disk_model.specs.Listing.{artifacts, IsListing};
     ghost use Rattle.disk_model.specs.Memory.{seen_by, left_by, left_since_by, moment_by, faults_by, Changed, Stable, Unchanged};
     ghost use Rattle.disk_model.specs.Laws.MemoryLaws.{memory_laws};
@@ -112,7 +112,7 @@ impl Disk for MemoryDisk {
         ensures same { self.new ≡ self.old }
         ensures told { IfOk result (λ n. n ≡ length (seen_by self.old file.now)) }
         ensures seen { seen_by self.new ≡ seen_by self.old }
-        ensures moments { Leaves moment_by left_since_by self.old self.new (left_by self.old) }
+        ensures moments { HasLeft moment_by left_since_by self.old self.new (left_by self.old) }
         ensures cause { HasCause (faults_by self.old) (faults_by self.new) result }
         ensures quiet { OnOk result (faults_by self.new ≡ faults_by self.old) }
     {
@@ -127,7 +127,7 @@ impl Disk for MemoryDisk {
             (n ≡ min (length into.old) (length (drop at (seen_by self.old file.now))))
             × (into.new ≡ take n (drop at (seen_by self.old file.now)) ++ drop n into.old)) }
         ensures seen { seen_by self.new ≡ seen_by self.old }
-        ensures moments { Leaves moment_by left_since_by self.old self.new (left_by self.old) }
+        ensures moments { HasLeft moment_by left_since_by self.old self.new (left_by self.old) }
         ensures cause { HasCause (faults_by self.old) (faults_by self.new) result }
         ensures quiet { OnOk result (faults_by self.new ≡ faults_by self.old) }
     {
@@ -143,10 +143,10 @@ impl Disk for MemoryDisk {
 
     fn write_at(&mut self, file: &str, at: u64, bytes: &[u8]) -> Result<(), DiskFault>
         requires { at ≤ length (seen_by self.old file.now) }
-        ensures ok { OnOk result (Changed file.now (Holds at bytes.now) (Torn at (length bytes.now)) self.old self.new) }
+        ensures ok { OnOk result (Changed file.now (IsPutAt at bytes.now) (Torn at (length bytes.now)) self.old self.new) }
         ensures err { OnErr result (Unchanged self.old self.new) }
-        ensures told { Step file.now (λ old new. OnOk result (Holds at bytes.now old new)) (seen_by self.old) (seen_by self.new) }
-        ensures moments { Leaves moment_by left_since_by self.old self.new (After (left_by self.old) (Step file.now (Torn at (length bytes.now)))) }
+        ensures told { Step file.now (λ old new. OnOk result (IsPutAt at bytes.now old new)) (seen_by self.old) (seen_by self.new) }
+        ensures moments { HasLeft moment_by left_since_by self.old self.new (IsAfter (left_by self.old) (Step file.now (Torn at (length bytes.now)))) }
         ensures cause { HasCause (faults_by self.old) (faults_by self.new) result }
         ensures quiet { OnOk result (faults_by self.new ≡ faults_by self.old) }
     {
@@ -165,7 +165,7 @@ impl Disk for MemoryDisk {
         ensures ok { OnOk result (Changed file.now (λ old new. new ≡ take len old) (Cut len) self.old self.new) }
         ensures err { OnErr result (Unchanged self.old self.new) }
         ensures told { Step file.now (λ old new. OnOk result (new ≡ take len old)) (seen_by self.old) (seen_by self.new) }
-        ensures moments { Leaves moment_by left_since_by self.old self.new (After (left_by self.old) (Step file.now (Cut len))) }
+        ensures moments { HasLeft moment_by left_since_by self.old self.new (IsAfter (left_by self.old) (Step file.now (Cut len))) }
         ensures cause { HasCause (faults_by self.old) (faults_by self.new) result }
         ensures quiet { OnOk result (faults_by self.new ≡ faults_by self.old) }
     {
@@ -184,7 +184,7 @@ impl Disk for MemoryDisk {
         ensures err { OnErr result (Unchanged self.old self.new) }
         ensures durable { OnOk result (Settled (left_by self.new) file.now (seen_by self.new file.now)) }
         ensures seen { seen_by self.new ≡ seen_by self.old }
-        ensures moments { Leaves moment_by left_since_by self.old self.new (left_by self.old) }
+        ensures moments { HasLeft moment_by left_since_by self.old self.new (left_by self.old) }
         ensures cause { HasCause (faults_by self.old) (faults_by self.new) result }
         ensures quiet { OnOk result (faults_by self.new ≡ faults_by self.old) }
     {
@@ -196,7 +196,7 @@ impl Disk for MemoryDisk {
         ensures ok { OnOk result (Changed file.now (λ _ new. new ≡ []) (Cut 0) self.old self.new) }
         ensures err { OnErr result (Unchanged self.old self.new) }
         ensures told { Step file.now (λ _ new. OnOk result (new ≡ [])) (seen_by self.old) (seen_by self.new) }
-        ensures moments { Leaves moment_by left_since_by self.old self.new (After (left_by self.old) (Step file.now (Cut 0))) }
+        ensures moments { HasLeft moment_by left_since_by self.old self.new (IsAfter (left_by self.old) (Step file.now (Cut 0))) }
         ensures cause { HasCause (faults_by self.old) (faults_by self.new) result }
         ensures quiet { OnOk result (faults_by self.new ≡ faults_by self.old) }
     {
@@ -209,7 +209,7 @@ impl Disk for MemoryDisk {
         ensures same { self.new ≡ self.old }
         ensures told { IfOk result (λ names. IsListing artifacts (seen_by self.old) names) }
         ensures seen { seen_by self.new ≡ seen_by self.old }
-        ensures moments { Leaves moment_by left_since_by self.old self.new (left_by self.old) }
+        ensures moments { HasLeft moment_by left_since_by self.old self.new (left_by self.old) }
         ensures later { faults_by self.old ≤ faults_by self.new }
         ensures quiet { ¬ (IsErrOf result ListFault.Disk) → faults_by self.new ≡ faults_by self.old }
     {

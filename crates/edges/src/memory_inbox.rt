@@ -44,11 +44,11 @@ impl MemoryInbox {
 
     /// What is given next.
     fn first(&self, alloc: Global) -> Result<Incoming, NoMemory>
-        ensures told { IfOk result (λ incoming. incoming ≡ next_of (inbox_waiting self.now).documents (inbox_waiting self.now).closed) }
+        ensures answers { IfOk result (λ incoming. incoming ≡ next_of (inbox_waiting self.now).documents (inbox_waiting self.now).closed) }
         ensures short { IfOk result IsShort }
     {
         match self.documents.as_slice().get(self.at) {
-            Some(document) => Ok(Incoming::Document(front_of(alloc, document.as_slice())?)),
+            Some(document) => Ok(Incoming::Document(prefix_of(alloc, document.as_slice())?)),
             None if self.closed => Ok(Incoming::Closed),
             None => Ok(Incoming::Nothing),
         }
@@ -56,9 +56,9 @@ impl MemoryInbox {
 }
 
 /// The bytes, or one more of them than a document may have.
-fn front_of(alloc: Global, bytes: &[u8]) -> Result<Bytes, NoMemory>
-    ensures front { IfOk result (λ front. front ≡ take (document_limit + 1) bytes.now) }
-    ensures short { IfOk result (λ front. length front ≤ document_limit + 1) }
+fn prefix_of(alloc: Global, bytes: &[u8]) -> Result<Bytes, NoMemory>
+    ensures prefix { IfOk result (λ prefix. prefix ≡ take (document_limit + 1) bytes.now) }
+    ensures short { IfOk result (λ prefix. length prefix ≤ document_limit + 1) }
 {
     let count = bytes.len().min(DOCUMENT_LIMIT + 1);
     Bytes::from_slice(alloc, &bytes[..count])

@@ -15,25 +15,25 @@ use Rattle.fleet_core.specs.Events.{Event}
 use Rattle.fleet_core.specs.Fleets.{FleetState, StandsFor, device_count}
 use Rattle.fleet_core.specs.Replies.{IsRefused, IsReply}
 use Rattle.fleet.specs.Commands.{IsBeginning, IsWritten, Line, lines_of, IsUnended}
-use Rattle.fleet.specs.Course.{Course, IsTaken, Stops, full_line, refused_line, shown}
-use Rattle.fleet.specs.Runs.{Ends, EndsAtFault, Follows, Goes, Prints, StartsOff, Stream, WritesInPart}
+use Rattle.fleet.specs.Course.{Course, IsTaken, StopAt, full_line, refused_line, shown}
+use Rattle.fleet.specs.Runs.{EndOrMemory, EndsAtFault, EndOfLines, LineOutcome, PrintedEnd, StartsOff, Stream, WritesInPart}
 
 -- ---- printing
 
 -- nothing is printed, and the status is this
-pub silent : (a : Option (List ℕ)) (f : ℕ) (s : Status) → Prints (record { before = a; after = a; faults_before = f; faults_after = f }) [] s s
+pub silent : (a : Option (List ℕ)) (f : ℕ) (s : Status) → PrintedEnd (record { before = a; after = a; faults_before = f; faults_after = f }) [] s s
 silent a f s = inl (refl, Appends-nil a, refl)
 
--- a front of what is printed later
-pub front_on : (a b c : Option (List ℕ)) (out printed : List ℕ) → Appends a b out → WritesInPart b c printed → WritesInPart a c (out ++ printed)
-front_on a b c out printed sent h = (out ++ h.0, h.1, ap (λ (l : List ℕ). out ++ l) h.2 ∙ sym (append_assoc out h.0 h.1), Appends-trans a b c out h.0 sent h.3)
+-- a prefix of what is printed later
+pub prefix_on : (a b c : Option (List ℕ)) (out printed : List ℕ) → Appends a b out → WritesInPart b c printed → WritesInPart a c (out ++ printed)
+prefix_on a b c out printed sent h = (out ++ h.0, h.1, ap (λ (l : List ℕ). out ++ l) h.2 ∙ sym (append_assoc out h.0 h.1), Appends-trans a b c out h.0 sent h.3)
 
 -- more is printed
 pub prints_on : (a b c : Option (List ℕ)) (f g h : ℕ) (out printed : List ℕ) (s result : Status) → Appends a b out → g ≡ f
-    → Prints (record { before = b; after = c; faults_before = g; faults_after = h }) printed s result
-    → Prints (record { before = a; after = c; faults_before = f; faults_after = h }) (out ++ printed) s result
+    → PrintedEnd (record { before = b; after = c; faults_before = g; faults_after = h }) printed s result
+    → PrintedEnd (record { before = a; after = c; faults_before = f; faults_after = h }) (out ++ printed) s result
 prints_on a b c f g h out printed s result sent quiet (inl p) = inl (p.0, Appends-trans a b c out printed sent p.1, p.2 ∙ quiet)
-prints_on a b c f g h out printed s result sent quiet (inr p) = inr (p.0, subst (λ (n : ℕ). Rose n h) quiet p.1, front_on a b c out printed sent p.2)
+prints_on a b c f g h out printed s result sent quiet (inr p) = inr (p.0, subst (λ (n : ℕ). Rose n h) quiet p.1, prefix_on a b c out printed sent p.2)
 
 -- ---- one line
 
@@ -44,14 +44,15 @@ some_course devices number past (line ∷ lines) = ([], statuses.Memory, inr (in
 
 -- a call ends with a course that these lines have
 abbrev pub HasEnd : ℕ → ℕ → List Event → List Line → Stream → Status → Type 0
-HasEnd devices number past lines sink result = (printed : List ℕ) × (s : Status) × Course devices number past lines printed s × Prints sink printed s result
+HasEnd devices number past lines sink result = (printed : List ℕ) × (s : Status) × Course devices number past lines printed s × PrintedEnd sink printed s result
 
 pub stops : (devices number : ℕ) (past : List Event) (line : Line) (sink : Stream) (printed : List ℕ) (s result : Status)
-    → Stops devices number past line printed s → Prints sink printed s result → (lines : List Line) → HasEnd devices number past (line ∷ lines) sink result
+    → StopAt devices number past line printed s → PrintedEnd sink printed s result → (lines : List Line) → HasEnd devices number past (line ∷ lines) sink result
 stops devices number past line sink printed s result here prints lines = (printed, s, inr here, prints)
 
 pub stops_or_not : (devices number : ℕ) (past : List Event) (line : Line) (sink : Stream) (printed : List ℕ) (s result : Status)
-    → Stops devices number past line printed s → Ends sink printed s result → (lines : List Line) → HasEnd devices number past (line ∷ lines) sink result
+    → StopAt devices number past line printed s → EndOrMemory sink printed s result → (lines : List Line)
+    → HasEnd devices number past (line ∷ lines) sink result
 stops_or_not devices number past line sink printed s result here (inl prints) = stops devices number past line sink printed s result here prints
 stops_or_not devices number past line sink printed s result here (inr prints) = stops devices number past line sink [] statuses.Memory result
     (inr (inr (refl, refl))) prints
@@ -88,7 +89,7 @@ refused devices number past text happening sink result (Document f) is why ends 
 
 -- what a fault that is neither Full nor NoMemory ends with
 pub other_fault : (number : ℕ) (sink : Stream) (result : Status) (f : StepFault) → (f ≡ Full → ⊥) → (f ≡ NoMemory → ⊥) →
-    Ends sink (refused_line number) statuses.BadInput result
+    EndOrMemory sink (refused_line number) statuses.BadInput result
     → EndsAtFault number sink result f
 other_fault number sink result Full no_full no_memory ends = absurd (no_full refl)
 other_fault number sink result NoMemory no_full no_memory ends = absurd (no_memory refl)
@@ -103,12 +104,12 @@ pub cut_off : (devices number : ℕ) (past : List Event) (line : Line) (event : 
     IsReply past event reply
     → Rose sink.faults_before sink.faults_after → WritesInPart sink.before sink.after (shown reply) → (lines : List Line) →
     HasEnd devices number past (line ∷ lines) sink statuses.Edge
-cut_off devices number past line event reply sink taken is rose front lines =
+cut_off devices number past line event reply sink taken is rose prefix lines =
     let rest = some_course devices (number + 1) (past ++ event ∷ []) lines in (
       shown reply ++ rest.0,
       rest.1,
       inl (event, reply, rest.0, taken, is, refl, rest.2),
-      inr (refl, rose, (front.0, front.1 ++ rest.0, ap (λ (l : List ℕ). l ++ rest.0) front.2 ∙ append_assoc front.0 front.1 rest.0, front.3)),
+      inr (refl, rose, (prefix.0, prefix.1 ++ rest.0, ap (λ (l : List ℕ). l ++ rest.0) prefix.2 ∙ append_assoc prefix.0 prefix.1 rest.0, prefix.3)),
     )
 
 -- ---- line after line
@@ -149,14 +150,14 @@ module _ (devices : ℕ) (lines : List Line) (number : ℕ) (rest : List Line) (
 
   pub at_end : (so : IsSoFar devices lines number rest fleet (record { before = a; after = b; faults_before = f; faults_after = g })) (result : Status)
       → HasEnd devices number so.past rest (record { before = b; after = c; faults_before = g; faults_after = h }) result
-      → Follows devices lines (record { before = a; after = c; faults_before = f; faults_after = h }) result
+      → EndOfLines devices lines (record { before = a; after = c; faults_before = f; faults_after = h }) result
   at_end so result e = (so.out ++ e.0, e.1, so.onward e.0 e.1 e.2, prints_on a b c f g h so.out e.0 e.1 result so.sent so.quiet e.3)
 
 -- a line is taken, and the fleet goes on
 pub goes_on : (devices : ℕ) (lines : List Line) (number : ℕ) (text : List ℕ) (rest : List Line) (fleet new : FleetState) (a b c : Option (List ℕ)) (f g h : ℕ)
     → (so : IsSoFar devices lines number (record { text = text; is_ended = true } ∷ rest) fleet
     (record { before = a; after = b; faults_before = f; faults_after = g }))
-    → Goes (device_count fleet) number so.past text new (record { before = b; after = c; faults_before = g; faults_after = h }) (Ok tt) →
+    → LineOutcome (device_count fleet) number so.past text new (record { before = b; after = c; faults_before = g; faults_after = h }) (Ok tt) →
     device_count new ≡ device_count fleet
     → IsSoFar devices lines (number + 1) rest new (record { before = a; after = c; faults_before = f; faults_after = h })
 goes_on devices lines number text rest fleet new a b c f g h so goes count =
@@ -169,8 +170,8 @@ pub goes_out : (devices : ℕ) (lines : List Line) (number : ℕ) (text : List �
     (f g h : ℕ) (result : Status)
     → (so : IsSoFar devices lines number (record { text = text; is_ended = true } ∷ rest) fleet
     (record { before = a; after = b; faults_before = f; faults_after = g }))
-    → Goes (device_count fleet) number so.past text new (record { before = b; after = c; faults_before = g; faults_after = h }) (Err result)
-    → Follows devices lines (record { before = a; after = c; faults_before = f; faults_after = h }) result
+    → LineOutcome (device_count fleet) number so.past text new (record { before = b; after = c; faults_before = g; faults_after = h }) (Err result)
+    → EndOfLines devices lines (record { before = a; after = c; faults_before = f; faults_after = h }) result
 goes_out devices lines number text rest fleet new a b c f g h result so goes =
     let line : Line = record { text = text; is_ended = true } in
     let sink : Stream = record { before = b; after = c; faults_before = g; faults_after = h } in
@@ -185,7 +186,7 @@ unended_line (byte ∷ bytes) some is = is
 -- The rest is refused, since no line feed ends it.
 pub unended_end : (devices number : ℕ) (past : List Event) (bytes : List ℕ) (sink : Stream) (result : Status) → 0 < length bytes →
     IsUnended bytes (lines_of bytes)
-    → Ends sink (refused_line number) statuses.BadInput result → HasEnd devices number past (lines_of bytes) sink result
+    → EndOrMemory sink (refused_line number) statuses.BadInput result → HasEnd devices number past (lines_of bytes) sink result
 unended_end devices number past bytes sink result some is ends =
     let line : Line = record { text = bytes; is_ended = false } in
     subst (λ (ls : List Line). HasEnd devices number past ls sink result) (sym (unended_line bytes some is))
@@ -200,12 +201,13 @@ no_more devices number past a f = ([], statuses.Done, (refl, refl), silent a f s
 -- ---- the first line
 
 pub refused_start : (line : Line) (lines : List Line) (sink : Stream) (result : Status) → ((devices : ℕ) → IsBeginning line devices → ⊥) →
-    Ends sink (refused_line 1) statuses.BadInput result
+    EndOrMemory sink (refused_line 1) statuses.BadInput result
     → StartsOff (line ∷ lines) sink result
 refused_start line lines sink result none (inl prints) = (refused_line 1, statuses.BadInput, inr (inl (none, refl, refl)), prints)
 refused_start line lines sink result none (inr prints) = ([], statuses.Memory, inr (inr (refl, refl)), prints)
 
-pub unended_start : (bytes : List ℕ) (sink : Stream) (result : Status) → IsUnended bytes (lines_of bytes) → Ends sink (refused_line 1) statuses.BadInput result
+pub unended_start : (bytes : List ℕ) (sink : Stream) (result : Status) → IsUnended bytes (lines_of bytes)
+    → EndOrMemory sink (refused_line 1) statuses.BadInput result
     → StartsOff (lines_of bytes) sink result
 unended_start [] sink result is (inl prints) = (refused_line 1, statuses.BadInput, inl (refl, refl), prints)
 unended_start [] sink result is (inr prints) = ([], statuses.Memory, inr (refl, refl), prints)
@@ -214,7 +216,7 @@ unended_start (byte ∷ bytes) sink result is ends =
     subst (λ (ls : List Line). StartsOff ls sink result) (sym is) (refused_start line [] sink result (λ devices begins. true≢false (sym begins.ended)) ends)
 
 pub started : (devices : ℕ) (line : Line) (lines : List Line) (sink : Stream) (result : Status) → IsBeginning line devices →
-    Follows devices lines sink result → StartsOff (line ∷ lines) sink result
+    EndOfLines devices lines sink result → StartsOff (line ∷ lines) sink result
 started devices line lines sink result begins follows = (follows.0, follows.1, inl (devices, begins, follows.2), follows.3)
 
 pub no_fleet : (line : Line) (lines : List Line) (a : Option (List ℕ)) (f : ℕ) →

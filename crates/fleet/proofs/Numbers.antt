@@ -40,9 +40,9 @@ number_behind line word rest (Some n) is some = (is ∙ ap (λ (t : List ℕ). w
 at_number : (rest document : List ℕ) (n : ℕ) → n < 2 ^ 32 → rest ≡ decimal n ++ 32 ∷ document → position (λ b. b == 32) rest ≡ Some (length (decimal n))
 at_number rest document n small e = ap (position (λ b. b == 32)) e ∙ blank_behind (decimal n) document (decimal_is_IsNumeral n (omega arith)).0.1
 
-front_of : (xs ys : List ℕ) → take (length xs) (xs ++ ys) ≡ xs
-front_of [] ys = refl
-front_of (x ∷ xs) ys = ap (λ l. x ∷ l) (front_of xs ys)
+prefix_of : (xs ys : List ℕ) → take (length xs) (xs ++ ys) ≡ xs
+prefix_of [] ys = refl
+prefix_of (x ∷ xs) ys = ap (λ l. x ∷ l) (prefix_of xs ys)
 
 pub no_blank : (line rest : List ℕ) → line ≡ codes "send " ++ rest → position (λ b. b == 32) rest ≡ None
     → (n : ℕ) (document : List ℕ) → n < 2 ^ 32 → line ≡ codes "send " ++ decimal n ++ 32 ∷ document → ⊥
@@ -56,7 +56,7 @@ no_number line rest blank is some none n document small e =
     let split : rest ≡ decimal n ++ 32 ∷ document = append_cancel_left (codes "send ") rest (decimal n ++ 32 ∷ document) (sym is ∙ e) in
     let at : position (λ b. b == 32) rest ≡ Some (length (decimal n)) = at_number rest document n small split in
     let same : blank ≡ length (decimal n) = cc in
-    none n small (ap (λ (k : ℕ). take k rest) same ∙ ap (λ (t : List ℕ). take (length (decimal n)) t) split ∙ front_of (decimal n) (32 ∷ document))
+    none n small (ap (λ (k : ℕ). take k rest) same ∙ ap (λ (t : List ℕ). take (length (decimal n)) t) split ∙ prefix_of (decimal n) (32 ∷ document))
 
 parted : (xs : List ℕ) (i : ℕ) → i < length xs → get_or xs i 0 ≡ 32 → xs ≡ take i xs ++ 32 ∷ drop (suc i) xs
 parted [] i less is = absurd (omega arith)

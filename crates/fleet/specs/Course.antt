@@ -9,7 +9,7 @@ use Rattle.fleet_core.specs.declared.happening.Reply.TheVariants.{Sent, Taken, S
 use Rattle.fleet_core.specs.declared.happening.StepFault.{StepFault}
 use Rattle.fleet_core.specs.declared.happening.StepFault.TheVariants as fault
 use Rattle.fleet_core.specs.Events.{Event}
-use Rattle.fleet_core.specs.Replies.{Happens, IsRefused, IsReply}
+use Rattle.fleet_core.specs.Replies.{MayHappenAs, IsRefused, IsReply}
 use Rattle.fleet.specs.Commands.{Line, lines_of, IsCommand, IsBeginning}
 
 -- ---- what is printed
@@ -55,11 +55,11 @@ long_line = codes "refused 14 TooLong 1048576\n"
 
 -- the line is a command that comes behind these events, and it is this event
 abbrev pub IsTaken : ℕ → List Event → Line → Event → Type 0
-IsTaken devices past line event = (happening : Happening) × IsCommand line happening × Happens devices past happening event
+IsTaken devices past line event = (happening : Happening) × IsCommand line happening × MayHappenAs devices past happening event
 
 -- the line is no command, or one that is refused
-abbrev pub IsTurnedDown : ℕ → List Event → Line → Type 0
-IsTurnedDown devices past line =
+abbrev pub IsRejected : ℕ → List Event → Line → Type 0
+IsRejected devices past line =
     ((happening : Happening) → IsCommand line happening → ⊥)
     ⊎ ((happening : Happening) × (f : StepFault) × IsCommand line happening × IsRefused devices past happening f × (f ≢ fault.Full) × (f ≢ fault.NoMemory))
 
@@ -68,9 +68,9 @@ abbrev pub IsTooMany : ℕ → List Event → Line → Type 0
 IsTooMany devices past line = (happening : Happening) × IsCommand line happening × IsRefused devices past happening fault.Full
 
 -- The line with this number, behind these events, ends the program so. Want of memory may end it at any line.
-abbrev pub Stops : ℕ → ℕ → List Event → Line → List ℕ → Status → Type 0
-Stops devices number past line printed status =
-    IsTurnedDown devices past line × (printed ≡ refused_line number) × (status ≡ statuses.BadInput)
+abbrev pub StopAt : ℕ → ℕ → List Event → Line → List ℕ → Status → Type 0
+StopAt devices number past line printed status =
+    IsRejected devices past line × (printed ≡ refused_line number) × (status ≡ statuses.BadInput)
     ⊎ IsTooMany devices past line × (printed ≡ full_line) × (status ≡ statuses.Limit)
     ⊎ (printed ≡ []) × (status ≡ statuses.Memory)
 
@@ -80,12 +80,12 @@ Course devices number past [] printed status = (printed ≡ []) × (status ≡ s
 Course devices number past (line ∷ lines) printed status =
     ((event : Event) × (reply : Reply) × (more : List ℕ) × IsTaken devices past line event × IsReply past event reply × (printed ≡ shown reply ++ more)
     × Course devices (number + 1) (past ++ event ∷ []) lines more status)
-    ⊎ Stops devices number past line printed status
+    ⊎ StopAt devices number past line printed status
 
 -- What the lines of an input come to. The first one begins the fleet.
-abbrev pub Begins : List Line → List ℕ → Status → Type 0
-Begins [] printed status = (printed ≡ refused_line 1) × (status ≡ statuses.BadInput) ⊎ (printed ≡ []) × (status ≡ statuses.Memory)
-Begins (line ∷ lines) printed status =
+abbrev pub FleetCourse : List Line → List ℕ → Status → Type 0
+FleetCourse [] printed status = (printed ≡ refused_line 1) × (status ≡ statuses.BadInput) ⊎ (printed ≡ []) × (status ≡ statuses.Memory)
+FleetCourse (line ∷ lines) printed status =
     ((devices : ℕ) × IsBeginning line devices × Course devices 2 [] lines printed status)
     ⊎ ((devices : ℕ) → IsBeginning line devices → ⊥) × (printed ≡ refused_line 1) × (status ≡ statuses.BadInput)
     ⊎ (printed ≡ []) × (status ≡ statuses.Memory)
@@ -94,7 +94,7 @@ abbrev pub most_bytes : ℕ
 most_bytes = 1048576
 
 -- What an input comes to.
-abbrev pub Comes : List ℕ → List ℕ → Status → Type 0
-Comes bytes printed status =
+abbrev pub InputCourse : List ℕ → List ℕ → Status → Type 0
+InputCourse bytes printed status =
     (most_bytes < length bytes) × (printed ≡ long_line) × (status ≡ statuses.Limit)
-    ⊎ (length bytes ≤ most_bytes) × Begins (lines_of bytes) printed status
+    ⊎ (length bytes ≤ most_bytes) × FleetCourse (lines_of bytes) printed status

@@ -5,7 +5,7 @@ use Rattle.std.specs.Io.KnownBytes.{Appends}
 use Rattle.nuc_base.specs.declared.status.Status.{Status}
 use Rattle.nuc_base.specs.declared.status.Status.TheVariants as statuses
 use Rattle.nuc_base.specs.Faults.{Rose}
-use Rattle.edges.specs.Pieces.{Writes}
+use Rattle.edges.specs.Pieces.{WriteOutcome}
 use Rattle.fleet_core.specs.declared.happening.Reply.{Reply}
 use Rattle.fleet_core.specs.declared.happening.StepFault.{StepFault}
 use Rattle.fleet_core.specs.declared.happening.StepFault.TheVariants.{NoDevice, NoPacket, NoReport, Document, NoRevision, Full, NoMemory}
@@ -13,7 +13,7 @@ use Rattle.fleet_core.specs.Events.{Event}
 use Rattle.fleet_core.specs.Fleets.{FleetState, StandsFor}
 use Rattle.fleet_core.specs.Replies.{IsReply}
 use Rattle.fleet.specs.Commands.{Line, IsBeginning}
-use Rattle.fleet.specs.Course.{Begins, Comes, Course, IsTaken, shown, usage_line, refused_line, full_line, most_bytes}
+use Rattle.fleet.specs.Course.{FleetCourse, InputCourse, Course, IsTaken, shown, usage_line, refused_line, full_line, most_bytes}
 
 -- what a stream holds, where it tells that, and its count of faults, before the call and after it
 pub record Stream : Type 0 where
@@ -25,57 +25,57 @@ pub record Stream : Type 0 where
 abbrev pub stream_of : {T : Type 0} → (T → Option (List ℕ)) → (T → ℕ) → T → T → Stream
 stream_of held faults old new = record { before = held old; after = held new; faults_before = faults old; faults_after = faults new }
 
--- a sink that fails has taken a front of these bytes
+-- a sink that fails has taken a prefix of these bytes
 abbrev pub WritesInPart : Option (List ℕ) → Option (List ℕ) → List ℕ → Type 0
-WritesInPart before after bytes = Writes {E = Unit {0}} before after bytes (Err tt)
+WritesInPart before after bytes = WriteOutcome {E = Unit {0}} before after bytes (Err tt)
 
--- these lines are printed, and the call ends so; or the sink fails, with a front of them printed
-abbrev pub Prints : Stream → List ℕ → Status → Status → Type 0
-Prints sink printed status result =
+-- these lines are printed, and the call ends so; or the sink fails, with a prefix of them printed
+abbrev pub PrintedEnd : Stream → List ℕ → Status → Status → Type 0
+PrintedEnd sink printed status result =
     (result ≡ status) × Appends sink.before sink.after printed × (sink.faults_after ≡ sink.faults_before)
     ⊎ (result ≡ statuses.Edge) × Rose sink.faults_before sink.faults_after × WritesInPart sink.before sink.after printed
 
 -- so it is, or memory was refused and nothing is printed
-abbrev pub Ends : Stream → List ℕ → Status → Status → Type 0
-Ends sink printed status result = Prints sink printed status result ⊎ Prints sink [] statuses.Memory result
+abbrev pub EndOrMemory : Stream → List ℕ → Status → Status → Type 0
+EndOrMemory sink printed status result = PrintedEnd sink printed status result ⊎ PrintedEnd sink [] statuses.Memory result
 
 -- The line with this number is refused by this fault, and the call ends.
 abbrev pub EndsAtFault : ℕ → Stream → Status → StepFault → Type 0
-EndsAtFault number sink result Full = Prints sink full_line statuses.Limit result
-EndsAtFault number sink result NoMemory = Prints sink [] statuses.Memory result
-EndsAtFault number sink result NoDevice = Ends sink (refused_line number) statuses.BadInput result
-EndsAtFault number sink result NoPacket = Ends sink (refused_line number) statuses.BadInput result
-EndsAtFault number sink result NoReport = Ends sink (refused_line number) statuses.BadInput result
-EndsAtFault number sink result NoRevision = Ends sink (refused_line number) statuses.BadInput result
-EndsAtFault number sink result (Document f) = Ends sink (refused_line number) statuses.BadInput result
+EndsAtFault number sink result Full = PrintedEnd sink full_line statuses.Limit result
+EndsAtFault number sink result NoMemory = PrintedEnd sink [] statuses.Memory result
+EndsAtFault number sink result NoDevice = EndOrMemory sink (refused_line number) statuses.BadInput result
+EndsAtFault number sink result NoPacket = EndOrMemory sink (refused_line number) statuses.BadInput result
+EndsAtFault number sink result NoReport = EndOrMemory sink (refused_line number) statuses.BadInput result
+EndsAtFault number sink result NoRevision = EndOrMemory sink (refused_line number) statuses.BadInput result
+EndsAtFault number sink result (Document f) = EndOrMemory sink (refused_line number) statuses.BadInput result
 
 -- The line with this number is taken, its reply is printed, and the fleet stands for the events with its event at their end;
 -- or the call ends with a course that whatever lines stand behind it have.
-abbrev pub Goes : ℕ → ℕ → List Event → List ℕ → FleetState → Stream → Result (Unit {0}) Status → Type 0
-Goes devices number past text fleet sink result = MatchResult result
+abbrev pub LineOutcome : ℕ → ℕ → List Event → List ℕ → FleetState → Stream → Result (Unit {0}) Status → Type 0
+LineOutcome devices number past text fleet sink result = MatchResult result
     (λ _. (event : Event) × (reply : Reply) × IsTaken devices past (record { text = text; is_ended = true }) event × IsReply past event reply
     × StandsFor fleet (past ++ event ∷ []) × Appends sink.before sink.after (shown reply) × (sink.faults_after ≡ sink.faults_before))
     (λ ended. (lines : List Line) → (printed : List ℕ) × (status : Status) × Course devices number past (record { text = text; is_ended = true } ∷ lines)
     printed status
-    × Prints sink printed status ended)
+    × PrintedEnd sink printed status ended)
 
 -- the call comes to the end of these lines
-abbrev pub Follows : ℕ → List Line → Stream → Status → Type 0
-Follows devices lines sink result = (printed : List ℕ) × (status : Status) × Course devices 2 [] lines printed status × Prints sink printed status result
+abbrev pub EndOfLines : ℕ → List Line → Stream → Status → Type 0
+EndOfLines devices lines sink result = (printed : List ℕ) × (status : Status) × Course devices 2 [] lines printed status × PrintedEnd sink printed status result
 
 -- the call comes to the end of all the lines
 abbrev pub StartsOff : List Line → Stream → Status → Type 0
-StartsOff lines sink result = (printed : List ℕ) × (status : Status) × Begins lines printed status × Prints sink printed status result
+StartsOff lines sink result = (printed : List ℕ) × (status : Status) × FleetCourse lines printed status × PrintedEnd sink printed status result
 
 abbrev pub BeginsWith : List ℕ → Option ℕ → Type 0
 BeginsWith text result = MatchOption result ((devices : ℕ) → IsBeginning (record { text = text; is_ended = true }) devices → ⊥)
     (IsBeginning (record { text = text; is_ended = true }))
 
 -- The call with so many words. With no word but its name it reads at most one byte more than it may.
-abbrev pub Runs : ℕ → Stream → Stream → Status → Type 0
-Runs words source sink result =
-    (1 < words) × Prints sink usage_line statuses.Usage result
-    ⊎ (words ≤ 1) × (result ≡ statuses.Edge) × Rose source.faults_before source.faults_after × Prints sink [] statuses.Edge result
-    ⊎ (words ≤ 1) × Prints sink [] statuses.Memory result
+abbrev pub ProgramOutcome : ℕ → Stream → Stream → Status → Type 0
+ProgramOutcome words source sink result =
+    (1 < words) × PrintedEnd sink usage_line statuses.Usage result
+    ⊎ (words ≤ 1) × (result ≡ statuses.Edge) × Rose source.faults_before source.faults_after × PrintedEnd sink [] statuses.Edge result
+    ⊎ (words ≤ 1) × PrintedEnd sink [] statuses.Memory result
     ⊎ (words ≤ 1) × ((bytes : List ℕ) × (printed : List ℕ) × (status : Status) × IfSome source.before (λ left. bytes ≡ take (most_bytes + 1) left)
-    × Comes bytes printed status × Prints sink printed status result)
+    × InputCourse bytes printed status × PrintedEnd sink printed status result)

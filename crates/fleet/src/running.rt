@@ -6,7 +6,7 @@ ghost use Rattle.fleet_core.specs.Events.{Event};
 ghost use Rattle.fleet_core.specs.Fleets.{StandsFor, device_count};
 ghost use Rattle.fleet.specs.Commands.{lines_of};
 ghost use Rattle.fleet.specs.Course.{refused_line};
-ghost use Rattle.fleet.specs.Runs.{stream_of, Prints, Ends, EndsAtFault, Goes, Follows, StartsOff, BeginsWith, Runs};
+ghost use Rattle.fleet.specs.Runs.{stream_of, PrintedEnd, EndOrMemory, EndsAtFault, LineOutcome, EndOfLines, StartsOff, BeginsWith, ProgramOutcome};
 
 use crate::commands::{command, first_line, numbered};
 use crate::printing::{numbered_line, reply_text};
@@ -20,7 +20,7 @@ const MOST_BYTES: usize = 1_048_576;
 
 /// Prints one last line, and answers the status: 6 where it could not be written.
 fn end_with<K: Sink>(sink: &mut K, line: &str, status: Status) -> Status
-    ensures { Prints (stream_of K.held K.faults sink.old sink.new) line.now status result }
+    ensures { PrintedEnd (stream_of K.held K.faults sink.old sink.new) line.now status result }
 {
     match write_all(sink, line.as_bytes()) {
         Ok(()) => status,
@@ -30,7 +30,7 @@ fn end_with<K: Sink>(sink: &mut K, line: &str, status: Status) -> Status
 
 /// Refuses the line with this number.
 fn refuse<K: Sink>(alloc: Global, number: u32, sink: &mut K) -> Status
-    ensures { Ends (stream_of K.held K.faults sink.old sink.new) (refused_line number) status.BadInput result }
+    ensures { EndOrMemory (stream_of K.held K.faults sink.old sink.new) (refused_line number) status.BadInput result }
 {
     match numbered_line(alloc, "refused 2 line", number) {
         Ok(line) => end_with(sink, line.as_str(), Status::BadInput),
@@ -58,7 +58,7 @@ fn take_line<K: Sink>(
     sink: &mut K,
 ) -> Result<(), Status>
     ensures goes { (past : List Event) → StandsFor fleet.old past
-        → Goes (device_count fleet.old) number past line.now fleet.new (stream_of K.held K.faults sink.old sink.new) result }
+        → LineOutcome (device_count fleet.old) number past line.now fleet.new (stream_of K.held K.faults sink.old sink.new) result }
     ensures devices { device_count fleet.new ≡ device_count fleet.old }
 {
     let happening = match command(alloc, line) {
@@ -83,7 +83,7 @@ fn take_line<K: Sink>(
 fn run_lines<K: Sink>(alloc: Global, mut fleet: Fleet, lines: &[u8], sink: &mut K) -> Status
     requires stands { StandsFor fleet [] }
     requires short { length lines.now ≤ 1048576 }
-    ensures { Follows (device_count fleet) (lines_of lines.now) (stream_of K.held K.faults sink.old sink.new) result }
+    ensures { EndOfLines (device_count fleet) (lines_of lines.now) (stream_of K.held K.faults sink.old sink.new) result }
 {
     let mut rest = lines;
     let mut number = 2;
@@ -141,7 +141,7 @@ pub fn fleet<S: Source, K: Sink>(
     source: &mut S,
     sink: &mut K,
 ) -> Status
-    ensures runs { Runs (vec_len words.now) (stream_of S.left S.faults source.old source.new) (stream_of K.held K.faults sink.old sink.new) result }
+    ensures runs { ProgramOutcome (vec_len words.now) (stream_of S.left S.faults source.old source.new) (stream_of K.held K.faults sink.old sink.new) result }
     // At most one byte more than may come is read, whatever is answered, and none where there is another word.
     ensures read { ReadsUpTo 1048577 (S.left source.old) (S.left source.new) }
     ensures unread { 1 < vec_len words.now → source.new ≡ source.old }

@@ -15,7 +15,7 @@ use Rattle.std.proofs.lemmas.Map.Text.{is_eq-slice_cmp}
 use Rattle.std.proofs.lemmas.Slice.Eq.{bytes_eq-Decides}
 use Rattle.fleet_core.specs.declared.history.Taking.{Taking}
 use Rattle.fleet_core.specs.Takings.{level}
-use Rattle.fleet_core.specs.Keeping.{Keeping, takings_of, Takes}
+use Rattle.fleet_core.specs.Keeping.{Keeping, takings_of, HasTakenOne}
 use Rattle.fleet_core.specs.Replies.{IsListing}
 
 abbrev pub Entry : Type 0
@@ -69,9 +69,9 @@ at_device_none P es heard device g is found holds = subst P (sym (among-none g e
 pub takes_one : (es fs : List Entry) (heard : ℕ) (device : Keeping) (g : List ℕ) (ts : List Taking) (t : Taking) → record { groups = es; heard = heard }
     ≡ device
     → ((q : List ℕ) → lookup (by_order q) fs ≡ cond (by_order g q) (Some ts) (lookup (by_order q) es)) → ts ≡ among es g ++ t ∷ []
-    → Takes device g t (record { groups = fs; heard = heard })
+    → HasTakenOne device g t (record { groups = fs; heard = heard })
 takes_one es fs heard device g ts t is updates more =
-    subst (λ (k : Keeping). Takes k g t (record { groups = fs; heard = heard })) is (record { taken = placed g es fs ts t updates more; heard = refl })
+    subst (λ (k : Keeping). HasTakenOne k g t (record { groups = fs; heard = heard })) is (record { taken = placed g es fs ts t updates more; heard = refl })
 
 pub ok_then : {T E A B : Type 0} (r : Result T E) → (A → B) → OnOk r A → OnOk r B
 ok_then (Ok x) step holds = step holds

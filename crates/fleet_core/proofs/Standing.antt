@@ -13,7 +13,7 @@ use Rattle.fleet_core.specs.Events.{Event}
 use Rattle.fleet_core.specs.Events.Event.{Sending, Delivery, Loss, Restarting, Reporting, Hearing}
 use Rattle.fleet_core.specs.Meaning.{packets, sent_by, loses, is_lost, arrived_by, is_to, highest, told, kept, known, Report, reports, reported_by, heard_by}
 use Rattle.fleet_core.specs.Takings.{level}
-use Rattle.fleet_core.specs.Keeping.{Keeping, takings_of, Takes}
+use Rattle.fleet_core.specs.Keeping.{Keeping, takings_of, HasTakenOne}
 use Rattle.fleet_core.specs.Fleets.{FleetState, StandsFor}
 use Rattle.fleet_core.proofs.Along.{along-step, along-same}
 use Rattle.fleet_core.proofs.Highest.{highest-head, highest-other}
@@ -270,7 +270,7 @@ pub record IsTaking (fleet : FleetState) (past : List Event) (n : ℕ) (p : Pack
   pub here : is_lost past n ≡ false
   pub at : slice_get (packets past) n ≡ Some p
   pub there : slice_get fleet.devices p.device ≡ Some device
-  pub takes : Takes device p.group (record { reports = length fleet.reports; revision = p.revision }) new
+  pub takes : HasTakenOne device p.group (record { reports = length fleet.reports; revision = p.revision }) new
 
 pub taking_stands : (fleet : FleetState) (past : List Event) (n : ℕ) (p : Packet) (device new : Keeping) → IsTaking fleet past n p device new →
     StandsFor fleet past

@@ -17,8 +17,8 @@ use Rattle.fleet_core.specs.Events.{Event}
 use Rattle.fleet_core.specs.Events.Event.{Sending, Delivery, Loss, Restarting, Reporting, Hearing}
 use Rattle.fleet_core.specs.Meaning.{packets, is_lost, kept, known, Report, reports}
 use Rattle.fleet_core.specs.Takings.{level, AreBy}
-use Rattle.fleet_core.specs.Keeping.{Keeping, takings_of, Takes, IsBy, level_before, IsOffered}
-use Rattle.fleet_core.specs.Fleets.{FleetState, AreFresh, IsSound, StandsFor, Steps}
+use Rattle.fleet_core.specs.Keeping.{Keeping, takings_of, HasTakenOne, IsBy, level_before, IsOffered}
+use Rattle.fleet_core.specs.Fleets.{FleetState, AreFresh, IsSound, StandsFor, Stepped}
 use Rattle.fleet_core.specs.Replies.{IsPacketOf, IsListing, verdict, most}
 use Rattle.fleet_core.proofs.Standing.{sending_stands, quiet_stands, quiet_gone, quiet_old, quiet_restarting, loss_stands, reporting_stands, taking_stands}
 use Rattle.fleet_core.proofs.Standing.{hearing_stands, get-push, get-set}
@@ -56,9 +56,9 @@ set-same (y ∷ xs) (suc i) x at = ap (λ l. y ∷ l) (set-same xs i x at)
 pub send_steps : (v fleet : FleetState) (is : v ≡ fleet) (d n : ℕ) (bytes : List ℕ) (p : Packet) (items : List Sent) → d < length v.devices →
     length v.sent < most → n ≡ length v.sent
     → IsPacketOf d bytes p → items ≡ v.sent ++ record { packet = p; is_lost = false } ∷ []
-    → (past : List Event) → StandsFor fleet past → Steps fleet past (happening.Send d bytes) (Ok (reply.Sent n)) (record v { sent = items })
+    → (past : List Event) → StandsFor fleet past → Stepped fleet past (happening.Send d bytes) (Ok (reply.Sent n)) (record v { sent = items })
 send_steps v fleet is d n bytes p items there few number packet more =
-    subst (λ (f : FleetState). (past : List Event) → StandsFor f past → Steps f past (happening.Send d bytes) (Ok (reply.Sent n)) (record v { sent = items }))
+    subst (λ (f : FleetState). (past : List Event) → StandsFor f past → Stepped f past (happening.Send d bytes) (Ok (reply.Sent n)) (record v { sent = items }))
     is (λ past stands.
     let many = many_packets v past stands in (
       Sending p,
@@ -68,9 +68,9 @@ send_steps v fleet is d n bytes p items there few number packet more =
     ))
 
 pub gone_steps : (v fleet : FleetState) (is : v ≡ fleet) (n : ℕ) (s : Sent) → slice_get v.sent n ≡ Some s → s.is_lost ≡ true
-    → (past : List Event) → StandsFor fleet past → Steps fleet past (happening.Deliver n) (Ok (reply.Gone n)) v
+    → (past : List Event) → StandsFor fleet past → Stepped fleet past (happening.Deliver n) (Ok (reply.Gone n)) v
 gone_steps v fleet is n s at lost =
-    subst (λ (f : FleetState). (past : List Event) → StandsFor f past → Steps f past (happening.Deliver n) (Ok (reply.Gone n)) v) is (λ past stands.
+    subst (λ (f : FleetState). (past : List Event) → StandsFor f past → Stepped f past (happening.Deliver n) (Ok (reply.Gone n)) v) is (λ past stands.
     let was : is_lost past n ≡ true = sym (stands.lost n s at) ∙ lost in (
       Delivery n,
       (sent_below v past n s stands at, refl),
@@ -83,9 +83,9 @@ pub offered_steps : (v fleet : FleetState) (is : v ≡ fleet) (n : ℕ) (s : Sen
     → slice_get v.sent n ≡ Some s → s.is_lost ≡ false → slice_get v.devices s.packet.device ≡ Some device →
     r ≡ verdict s.packet (level_before device s.packet (length v.reports))
     → IsOffered device s.packet (length v.reports) new → devices ≡ slice_set v.devices s.packet.device new
-    → (past : List Event) → StandsFor fleet past → Steps fleet past (happening.Deliver n) (Ok r) (record v { devices = devices })
+    → (past : List Event) → StandsFor fleet past → Stepped fleet past (happening.Deliver n) (Ok r) (record v { devices = devices })
 offered_steps v fleet is n s device new r devices at here there says offered written =
-    subst (λ (f : FleetState). (past : List Event) → StandsFor f past → Steps f past (happening.Deliver n) (Ok r) (record v { devices = devices })) is
+    subst (λ (f : FleetState). (past : List Event) → StandsFor f past → Stepped f past (happening.Deliver n) (Ok r) (record v { devices = devices })) is
     (λ past stands.
     let was : is_lost past n ≡ false = sym (stands.lost n s at) ∙ here in
     let packet = packet_at v past n s stands at in
@@ -103,7 +103,7 @@ offered_steps v fleet is n s device new r devices at here there says offered wri
     by : (past : List Event) → StandsFor v past → is_lost past n ≡ false → slice_get (packets past) n ≡ Some s.packet
         → level_before device s.packet (length v.reports) ≡ kept past s.packet.device s.packet.group
         → (b : Bool) → nat_lt (level_before device s.packet (length v.reports)) s.packet.revision ≡ b
-        → MatchBool b (Takes device s.packet.group (record { reports = length v.reports; revision = s.packet.revision }) new) (new ≡ device)
+        → MatchBool b (HasTakenOne device s.packet.group (record { reports = length v.reports; revision = s.packet.revision }) new) (new ≡ device)
         → StandsFor (record v { devices = slice_set v.devices s.packet.device new }) (past ++ Delivery n ∷ [])
     by past stands was packet level_is true newer takes = taking_stands v past n s.packet device new
         (record { here = was; at = packet; there = there; takes = takes }) stands
@@ -115,9 +115,9 @@ offered_steps v fleet is n s device new r devices at here there says offered wri
 
 pub lost_steps : (v fleet : FleetState) (is : v ≡ fleet) (n : ℕ) (s : Sent) (items : List Sent) → slice_get v.sent n ≡ Some s →
     items ≡ slice_set v.sent n (record s { is_lost = true })
-    → (past : List Event) → StandsFor fleet past → Steps fleet past (happening.Lose n) (Ok (reply.Lost n)) (record v { sent = items })
+    → (past : List Event) → StandsFor fleet past → Stepped fleet past (happening.Lose n) (Ok (reply.Lost n)) (record v { sent = items })
 lost_steps v fleet is n s items at written =
-    subst (λ (f : FleetState). (past : List Event) → StandsFor f past → Steps f past (happening.Lose n) (Ok (reply.Lost n)) (record v { sent = items })) is
+    subst (λ (f : FleetState). (past : List Event) → StandsFor f past → Stepped f past (happening.Lose n) (Ok (reply.Lost n)) (record v { sent = items })) is
     (λ past stands. (
       Loss n,
       (sent_below v past n s stands at, refl),
@@ -127,16 +127,16 @@ lost_steps v fleet is n s items at written =
     ))
 
 pub restarted_steps : (v fleet : FleetState) (is : v ≡ fleet) (d : ℕ) → d < length v.devices
-    → (past : List Event) → StandsFor fleet past → Steps fleet past (happening.Restart d) (Ok (reply.Restarted d)) v
+    → (past : List Event) → StandsFor fleet past → Stepped fleet past (happening.Restart d) (Ok (reply.Restarted d)) v
 restarted_steps v fleet is d there =
-    subst (λ (f : FleetState). (past : List Event) → StandsFor f past → Steps f past (happening.Restart d) (Ok (reply.Restarted d)) v) is (λ past stands.
+    subst (λ (f : FleetState). (past : List Event) → StandsFor f past → Stepped f past (happening.Restart d) (Ok (reply.Restarted d)) v) is (λ past stands.
     (Restarting d, (there, refl), refl, quiet_stands v past (Restarting d) (quiet_restarting past d) stands))
 
 pub report_steps : (v fleet : FleetState) (is : v ≡ fleet) (d n : ℕ) (items : List ℕ) → d < length v.devices → length v.reports < most →
     n ≡ length v.reports → items ≡ v.reports ++ d ∷ []
-    → (past : List Event) → StandsFor fleet past → Steps fleet past (happening.Report d) (Ok (reply.Reported n)) (record v { reports = items })
+    → (past : List Event) → StandsFor fleet past → Stepped fleet past (happening.Report d) (Ok (reply.Reported n)) (record v { reports = items })
 report_steps v fleet is d n items there few number more =
-    subst (λ (f : FleetState). (past : List Event) → StandsFor f past → Steps f past (happening.Report d) (Ok (reply.Reported n))
+    subst (λ (f : FleetState). (past : List Event) → StandsFor f past → Stepped f past (happening.Report d) (Ok (reply.Reported n))
     (record v { reports = items })) is (λ past stands.
     let many = many_reports v past stands in (
       Reporting d,
@@ -159,14 +159,14 @@ get-set-same (z ∷ xs) (suc i) x y at = get-set-same xs i x y at
 pub hear_steps : (v fleet : FleetState) (is : v ≡ fleet) (n d : ℕ) (device new : Keeping) (list : List (List ℕ × ℕ)) (devices : List Keeping)
     → slice_get v.reports n ≡ Some d → slice_get v.devices d ≡ Some device → IsListing (λ g. level (max device.heard (n + 1)) (takings_of device g)) list
     → new ≡ record device { heard = max device.heard (n + 1) } → devices ≡ slice_set v.devices d new
-    → (past : List Event) → StandsFor fleet past → Steps fleet past (happening.Hear n) (Ok (reply.Known d list)) (record v { devices = devices })
+    → (past : List Event) → StandsFor fleet past → Stepped fleet past (happening.Hear n) (Ok (reply.Known d list)) (record v { devices = devices })
 hear_steps v fleet is n d device new list devices at there listing heard written =
-    subst (λ (f : FleetState). (past : List Event) → StandsFor f past → Steps f past (happening.Hear n) (Ok (reply.Known d list))
+    subst (λ (f : FleetState). (past : List Event) → StandsFor f past → Stepped f past (happening.Hear n) (Ok (reply.Known d list))
     (record v { devices = devices })) is (λ past stands.
     by past stands (got-map (λ (r : Report). r.device) (reports past) n d (subst (λ (l : List ℕ). slice_get l n ≡ Some d) stands.reporters at)))
   where
     by : (past : List Event) → StandsFor v past → (r : Report) × (slice_get (reports past) n ≡ Some r) × (r.device ≡ d) →
-        Steps v past (happening.Hear n) (Ok (reply.Known d list)) (record v { devices = devices })
+        Stepped v past (happening.Hear n) (Ok (reply.Known d list)) (record v { devices = devices })
     by past stands (r, report, whose) =
         let low = slice_get_within (reports past) n r report in
         let place : slice_get v.devices r.device ≡ Some device = subst (λ (x : ℕ). slice_get v.devices x ≡ Some device) (sym whose) there in
@@ -238,7 +238,7 @@ offered_sound v p device new sound there offered = device_sound v p.device new s
         (record { reports = length v.reports; revision = p.revision } ∷ []) (sound.by p.device device there g) (omega arith, tt)
     grown g false = sound.by p.device device there g
 
-    by : (b : Bool) → MatchBool b (Takes device p.group (record { reports = length v.reports; revision = p.revision }) new) (new ≡ device) →
+    by : (b : Bool) → MatchBool b (HasTakenOne device p.group (record { reports = length v.reports; revision = p.revision }) new) (new ≡ device) →
         IsBy (length v.reports) new
     by true takes g = subst (AreBy (length v.reports)) (sym (takes.taken g)) (grown g (bytes_eq p.group g))
     by false same g = subst (λ (k : Keeping). AreBy (length v.reports) (takings_of k g)) (sym same) (sound.by p.device device there g)

@@ -1,6 +1,6 @@
 -- What happens in a fleet, with what documents say in place of their bytes.
 use Rattle.std.specs.Prelude.{◌≡◌, ℕ, ◌<◌, ◌≤◌, List, [], ◌∷◌, ◌++◌, length}
-use Rattle.deployment_doc.specs.OneDocument.{Reads}
+use Rattle.deployment_doc.specs.OneDocument.{IsDocumentOf}
 use Rattle.deployment_doc.specs.declared.document.Document.{Document}
 use Rattle.fleet_core.specs.declared.packet.Packet.{Packet}
 

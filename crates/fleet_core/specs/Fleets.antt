@@ -6,7 +6,7 @@ use Rattle.fleet_core.specs.declared.happening.Reply.{Reply}
 use Rattle.fleet_core.specs.declared.happening.StepFault.{StepFault}
 use Rattle.fleet_core.specs.Events.{Event}
 use Rattle.fleet_core.specs.Meaning.{packets, is_lost, kept, Report, reports, known}
-use Rattle.fleet_core.specs.Replies.{Happens, IsRefused, IsReply, most}
+use Rattle.fleet_core.specs.Replies.{MayHappenAs, IsRefused, IsReply, most}
 use Rattle.fleet_core.specs.Takings.{level}
 use Rattle.fleet_core.specs.Keeping.{Keeping, takings_of, IsBy}
 
@@ -46,7 +46,7 @@ pub record StandsFor (fleet : FleetState) (past : List Event) : Type 0 where
   pub hears : (d : ℕ) (device : Keeping) → slice_get fleet.devices d ≡ Some device → device.heard ≤ length fleet.reports
 
 -- the happening came behind these events, and this is its reply; or it is refused by this fault
-abbrev pub Steps : FleetState → List Event → Happening → Result Reply StepFault → FleetState → Type 0
-Steps old past happening result new = MatchResult result
-    (λ reply. (event : Event) × Happens (device_count old) past happening event × IsReply past event reply × StandsFor new (past ++ event ∷ []))
+abbrev pub Stepped : FleetState → List Event → Happening → Result Reply StepFault → FleetState → Type 0
+Stepped old past happening result new = MatchResult result
+    (λ reply. (event : Event) × MayHappenAs (device_count old) past happening event × IsReply past event reply × StandsFor new (past ++ event ∷ []))
     (λ fault. IsRefused (device_count old) past happening fault)

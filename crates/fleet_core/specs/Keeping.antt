@@ -22,7 +22,7 @@ abbrev pub IsBy : ℕ → Keeping → Type 0
 IsBy reports device = (group : List ℕ) → AreBy reports (takings_of device group)
 
 -- it took one document more
-pub record Takes (old : Keeping) (group : List ℕ) (taking : Taking) (new : Keeping) : Type 0 where
+pub record HasTakenOne (old : Keeping) (group : List ℕ) (taking : Taking) (new : Keeping) : Type 0 where
   pub taken : (g : List ℕ) → takings_of new g ≡ (if bytes_eq group g then takings_of old g ++ taking ∷ [] else takings_of old g)
   pub heard : new.heard ≡ old.heard
 
@@ -34,4 +34,4 @@ level_before device packet reports = level (reports + 1) (takings_of device pack
 abbrev pub IsOffered : Keeping → Packet → ℕ → Keeping → Type 0
 IsOffered old packet reports new =
     MatchBool (nat_lt (level_before old packet reports) packet.revision)
-    (Takes old packet.group (record { reports = reports; revision = packet.revision }) new) (new ≡ old)
+    (HasTakenOne old packet.group (record { reports = reports; revision = packet.revision }) new) (new ≡ old)

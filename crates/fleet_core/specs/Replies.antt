@@ -6,7 +6,7 @@ use Rattle.std.specs.Str.{bytes_eq}
 use Rattle.std.specs.Cmp.Lexicographic.{slice_cmp}
 use Rattle.std.specs.Ordering.{nat_cmp}
 use Rattle.std.specs.List.Sorted.{IsStrictlySortedBy}
-use Rattle.deployment_doc.specs.OneDocument.{Reads}
+use Rattle.deployment_doc.specs.OneDocument.{IsDocumentOf}
 use Rattle.deployment_doc.specs.Reads.{IsFault}
 use Rattle.deployment_doc.specs.declared.document.Document.{Document}
 use Rattle.fleet_core.specs.declared.packet.Packet.{Packet}
@@ -29,25 +29,25 @@ most = 65536
 -- The document that is sent names a revision, and this is its packet.
 abbrev pub IsPacketOf : ℕ → List ℕ → Packet → Type 0
 IsPacketOf device bytes packet =
-    (document : Document) × Reads bytes document × (0 < document.revision) ×
+    (document : Document) × IsDocumentOf bytes document × (0 < document.revision) ×
     (packet ≡ record { device = device; group = document.group; revision = document.revision })
 
 -- The happening is one that may come behind these events, in a fleet of so many devices, and it is this event.
-abbrev pub Happens : ℕ → List Event → Happening → Event → Type 0
-Happens devices past (Send d bytes) event = (d < devices) × (length (packets past) < most) ×
+abbrev pub MayHappenAs : ℕ → List Event → Happening → Event → Type 0
+MayHappenAs devices past (Send d bytes) event = (d < devices) × (length (packets past) < most) ×
     ((packet : Packet) × IsPacketOf d bytes packet × (event ≡ Sending packet))
-Happens devices past (Deliver n) event = (n < length (packets past)) × (event ≡ Delivery n)
-Happens devices past (Lose n) event = (n < length (packets past)) × (event ≡ Loss n)
-Happens devices past (Restart d) event = (d < devices) × (event ≡ Restarting d)
-Happens devices past (SendReport d) event = (d < devices) × (length (reports past) < most) × (event ≡ Reporting d)
-Happens devices past (Hear n) event = (n < length (reports past)) × (event ≡ Hearing n)
+MayHappenAs devices past (Deliver n) event = (n < length (packets past)) × (event ≡ Delivery n)
+MayHappenAs devices past (Lose n) event = (n < length (packets past)) × (event ≡ Loss n)
+MayHappenAs devices past (Restart d) event = (d < devices) × (event ≡ Restarting d)
+MayHappenAs devices past (SendReport d) event = (d < devices) × (length (reports past) < most) × (event ≡ Reporting d)
+MayHappenAs devices past (Hear n) event = (n < length (reports past)) × (event ≡ Hearing n)
 
 -- ---- what is refused
 
 -- why the bytes are no packet's
 abbrev pub IsUnread : List ℕ → StepFault → Type 0
 IsUnread bytes (NoDocument fault) = IsFault bytes fault
-IsUnread bytes NoRevision = (document : Document) × Reads bytes document × (document.revision ≡ 0)
+IsUnread bytes NoRevision = (document : Document) × IsDocumentOf bytes document × (document.revision ≡ 0)
 IsUnread bytes NoMemory = ⊤
 IsUnread bytes NoDevice = ⊥
 IsUnread bytes NoPacket = ⊥

@@ -1,7 +1,7 @@
 // What a device keeps, and what the controller has heard of it.
 ghost use Rattle.std.specs.Prelude.{◌≡◌, ◌+◌, ◌<◌, ◌^◌, ◌-◌, max, [], IfOk, OnOk, OnErr};
 ghost use Rattle.fleet_core.specs.Takings.{level};
-ghost use Rattle.fleet_core.specs.Keeping.{takings_of, Takes, IsBy, level_before, IsOffered};
+ghost use Rattle.fleet_core.specs.Keeping.{takings_of, HasTakenOne, IsBy, level_before, IsOffered};
 ghost use Rattle.fleet_core.specs.Replies.{verdict, IsListing};
 
 use crate::happening::Reply;
@@ -53,7 +53,7 @@ impl Device {
     fn take(&mut self, alloc: Global, group: &Label, taking: Taking) -> Result<(), NoMemory>
         requires later { IsBy taking.reports self.old }
         requires newer { level (taking.reports + 1) (takings_of self.old group.now) < taking.revision }
-        ensures ok { OnOk result (Takes self.old group.now taking self.new) }
+        ensures ok { OnOk result (HasTakenOne self.old group.now taking self.new) }
         ensures err { OnErr result (self.new ≡ self.old) }
     {
         if let Some(history) = self.groups.get_mut(group) {

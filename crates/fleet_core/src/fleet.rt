@@ -1,6 +1,6 @@
 ghost use Rattle.std.specs.Prelude.{◌≡◌, ◌≤◌, List, [], length, MatchResult, IfOk, OnErr};
 ghost use Rattle.fleet_core.specs.Events.{Event};
-ghost use Rattle.fleet_core.specs.Fleets.{device_count, AreFresh, StandsFor, Steps};
+ghost use Rattle.fleet_core.specs.Fleets.{device_count, AreFresh, StandsFor, Stepped};
 ghost use Rattle.fleet_core.specs.Replies.{IsPacketOf, IsUnread};
 ghost use Rattle.fleet_core.specs.declared.happening.Happening.TheVariants as happening;
 
@@ -95,7 +95,7 @@ impl Fleet {
     /// `Full`. `NoMemory` may come at any step. A step takes time by the logarithm of what there is, but that `Hear` goes
     /// over the groups of the device.
     pub fn step(&mut self, happening: Happening) -> Result<Reply, StepFault>
-        ensures steps { (past : List Event) → StandsFor self.old past → Steps self.old past happening result self.new }
+        ensures steps { (past : List Event) → StandsFor self.old past → Stepped self.old past happening result self.new }
         ensures devices { device_count self.new ≡ device_count self.old }
         ensures unchanged { OnErr result (self.new ≡ self.old) }
     {
@@ -110,7 +110,7 @@ impl Fleet {
     }
 
     fn send(&mut self, device: u32, bytes: &[u8]) -> Result<Reply, StepFault>
-        ensures steps { (past : List Event) → StandsFor self.old past → Steps self.old past (happening.Send device bytes.now) result self.new }
+        ensures steps { (past : List Event) → StandsFor self.old past → Stepped self.old past (happening.Send device bytes.now) result self.new }
         ensures devices { device_count self.new ≡ device_count self.old }
         ensures unchanged { OnErr result (self.new ≡ self.old) }
     {
@@ -131,7 +131,7 @@ impl Fleet {
     }
 
     fn deliver(&mut self, number: u32) -> Result<Reply, StepFault>
-        ensures steps { (past : List Event) → StandsFor self.old past → Steps self.old past (happening.Deliver number) result self.new }
+        ensures steps { (past : List Event) → StandsFor self.old past → Stepped self.old past (happening.Deliver number) result self.new }
         ensures devices { device_count self.new ≡ device_count self.old }
         ensures unchanged { OnErr result (self.new ≡ self.old) }
     {
@@ -147,7 +147,7 @@ impl Fleet {
     }
 
     fn lose(&mut self, number: u32) -> Result<Reply, StepFault>
-        ensures steps { (past : List Event) → StandsFor self.old past → Steps self.old past (happening.Lose number) result self.new }
+        ensures steps { (past : List Event) → StandsFor self.old past → Stepped self.old past (happening.Lose number) result self.new }
         ensures devices { device_count self.new ≡ device_count self.old }
         ensures unchanged { OnErr result (self.new ≡ self.old) }
     {
@@ -160,7 +160,7 @@ impl Fleet {
 
     /// What a device keeps outlives its restart.
     fn restart(&mut self, device: u32) -> Result<Reply, StepFault>
-        ensures steps { (past : List Event) → StandsFor self.old past → Steps self.old past (happening.Restart device) result self.new }
+        ensures steps { (past : List Event) → StandsFor self.old past → Stepped self.old past (happening.Restart device) result self.new }
         ensures devices { device_count self.new ≡ device_count self.old }
         ensures unchanged { OnErr result (self.new ≡ self.old) }
     {
@@ -171,7 +171,7 @@ impl Fleet {
     }
 
     fn report(&mut self, device: u32) -> Result<Reply, StepFault>
-        ensures steps { (past : List Event) → StandsFor self.old past → Steps self.old past (happening.Report device) result self.new }
+        ensures steps { (past : List Event) → StandsFor self.old past → Stepped self.old past (happening.Report device) result self.new }
         ensures devices { device_count self.new ≡ device_count self.old }
         ensures unchanged { OnErr result (self.new ≡ self.old) }
     {
@@ -187,7 +187,7 @@ impl Fleet {
     }
 
     fn hear(&mut self, number: u32) -> Result<Reply, StepFault>
-        ensures steps { (past : List Event) → StandsFor self.old past → Steps self.old past (happening.Hear number) result self.new }
+        ensures steps { (past : List Event) → StandsFor self.old past → Stepped self.old past (happening.Hear number) result self.new }
         ensures devices { device_count self.new ≡ device_count self.old }
         ensures unchanged { OnErr result (self.new ≡ self.old) }
     {

@@ -1,12 +1,12 @@
 -- A journal over some files of a disk, whichever way it keeps its entries.
 use Rattle.std.specs.Prelude.{◌≡◌, ◌<◌, ◌⊎◌, ℕ, length, Bool, IsTrue, List, [], ◌∷◌, ◌++◌}
 use Rattle.disk_model.specs.Disk.{Image, Settled, DiskLaws}
-use Rattle.gate_log.specs.Entries.{journal, ClosedAt, Entries, HoldsNone, IsDamaged}
+use Rattle.gate_log.specs.Entries.{journal, ClosedAt, HasEntries, HoldsNone, IsDamaged}
 use Rattle.gate_log.specs.Place.{place_behind}
 use Rattle.gate_log.specs.declared.log.Log.{Log}
 
 -- the image has this, and the files that aren't the journal's stay
-pub record Within (files : List ℕ → Type 0) (P : Image → Type 0) (old new : Image) : Type 0 where
+pub record IsChangeIn (files : List ℕ → Type 0) (P : Image → Type 0) (old new : Image) : Type 0 where
   pub here : P new
   pub others : (name : List ℕ) → ¬ (files name) → new name ≡ old name
 
@@ -58,7 +58,7 @@ stands_in file log image payloads = ClosedAt (image file) log.end payloads
 
 -- the image's file holds these entries
 abbrev pub entries_in : List ℕ → Image → List (List ℕ) → Type 0
-entries_in file image payloads = Entries (image file) payloads
+entries_in file image payloads = HasEntries (image file) payloads
 
 -- the image's file holds no entry
 abbrev pub none_in : List ℕ → Image → Type 0

@@ -4,8 +4,8 @@ use Rattle.std.proofs.Common.{append_assoc, length-append}
 use Rattle.std.proofs.lemmas.List.{append-nil, take_at, drop_at}
 use Rattle.std.proofs.lemmas.Nat.{from_be_bytes-to_be_bytes_4}
 use Rattle.std.specs.Int.{w32, to_be_bytes, from_be_bytes}
-use Rattle.disk_model.specs.Disk.{Image, After}
-use Rattle.gate_log.specs.Entries.{entry, joined, IsGood, AllGood, ClosedAt, Entries, IsBad, IsDamaged, HoldsNone}
+use Rattle.disk_model.specs.Disk.{Image, IsAfter}
+use Rattle.gate_log.specs.Entries.{entry, joined, IsGood, AllGood, ClosedAt, HasEntries, IsBad, IsDamaged, HoldsNone}
 use Rattle.gate_log.specs.Place.{place_behind, IsEntryAt}
 use Rattle.gate_log.specs.Journal.{IsBehind, JournalLaws, log_files, log_entries, log_none, log_damaged, log_stands}
 use Rattle.gate_log.specs.declared.log.Log.{Log}
@@ -30,14 +30,14 @@ entry_same d e r s good other same =
       sym (drop_at d.1 r (length d.1) refl) ∙ ap (λ (l : List ℕ). drop (length d.1) l) bodies ∙ drop_at e.1 s (length d.1) (sym sizes),
     )
 
-front_open : (e : ℕ × List ℕ) (more rest tail : List ℕ) → IsGood e → entry e ++ more ≡ 0 ∷ tail → ⊥
-front_open e more rest tail good is = good.is_open (ap (λ (l : List ℕ). get_or l 0 0) is)
+start_open : (e : ℕ × List ℕ) (more rest tail : List ℕ) → IsGood e → entry e ++ more ≡ 0 ∷ tail → ⊥
+start_open e more rest tail good is = good.is_open (ap (λ (l : List ℕ). get_or l 0 0) is)
 
 chains_same : (es fs : List (ℕ × List ℕ)) (s t : List ℕ) → AllGood es → AllGood fs → joined es ++ 0 ∷ s ≡ joined fs ++ 0 ∷ t →
     map (λ (e : ℕ × List ℕ). e.1) es ≡ map (λ (e : ℕ × List ℕ). e.1) fs
 chains_same [] [] s t good other is = refl
-chains_same [] (f ∷ fs) s t good other is = absurd (front_open f (joined fs ++ 0 ∷ t) [] s other.0 (sym (append_assoc (entry f) (joined fs) (0 ∷ t)) ∙ sym is))
-chains_same (e ∷ es) [] s t good other is = absurd (front_open e (joined es ++ 0 ∷ s) [] t good.0 (sym (append_assoc (entry e) (joined es) (0 ∷ s)) ∙ is))
+chains_same [] (f ∷ fs) s t good other is = absurd (start_open f (joined fs ++ 0 ∷ t) [] s other.0 (sym (append_assoc (entry f) (joined fs) (0 ∷ t)) ∙ sym is))
+chains_same (e ∷ es) [] s t good other is = absurd (start_open e (joined es ++ 0 ∷ s) [] t good.0 (sym (append_assoc (entry e) (joined es) (0 ∷ s)) ∙ is))
 chains_same (e ∷ es) (f ∷ fs) s t good other is =
     let one = entry_same e f (joined es ++ 0 ∷ s) (joined fs ++ 0 ∷ t) good.0 other.0
     (sym (append_assoc (entry e) (joined es) (0 ∷ s)) ∙ is ∙ append_assoc (entry f) (joined fs) (0 ∷ t)) in
@@ -58,7 +58,7 @@ closed_short file end payloads closed short = by_entries closed.entries closed.p
     ))
 
 -- a file holds one list of entries
-pub entries_same : (file : List ℕ) (p q : List (List ℕ)) → Entries file p → Entries file q → p ≡ q
+pub entries_same : (file : List ℕ) (p q : List (List ℕ)) → HasEntries file p → HasEntries file q → p ≡ q
 entries_same file p q (inl a) (inl b) = a.1 ∙ sym b.1
 entries_same file p q (inl a) (inr b) = a.1 ∙ sym (closed_short file b.0 q b.1 a.0)
 entries_same file p q (inr a) (inl b) = closed_short file a.0 p a.1 b.0 ∙ sym b.1
@@ -72,20 +72,20 @@ bad_chain [] (f ∷ []) rest tail good other bad is =
     bad.no_entry f 0 tail other.0 (is ∙ ap (λ (l : List ℕ). l ++ 0 ∷ tail) (append-nil (entry f)))
 bad_chain [] (f ∷ h ∷ fs) rest tail good other bad is =
     bad.no_entry f h.0 ((to_be_bytes w32 (length h.1) ++ h.1 ++ joined fs) ++ 0 ∷ tail) other.0 (is ∙ append_assoc (entry f) (entry h ++ joined fs) (0 ∷ tail))
-bad_chain (e ∷ es) [] rest tail good other bad is = front_open e (joined es ++ rest) [] tail good.0 (sym (append_assoc (entry e) (joined es) rest) ∙ is)
+bad_chain (e ∷ es) [] rest tail good other bad is = start_open e (joined es ++ rest) [] tail good.0 (sym (append_assoc (entry e) (joined es) rest) ∙ is)
 bad_chain (e ∷ es) (f ∷ fs) rest tail good other bad is =
     let one = entry_same e f (joined es ++ rest) (joined fs ++ 0 ∷ tail) good.0 other.0
     (sym (append_assoc (entry e) (joined es) rest) ∙ is ∙ append_assoc (entry f) (joined fs) (0 ∷ tail)) in
     bad_chain es fs rest tail good.1 other.1 bad one.1
 
-pub damaged_holds_none : (file : List ℕ) (at : ℕ) (payloads : List (List ℕ)) → 1 < length file → IsDamaged file at → Entries file payloads → ⊥
+pub damaged_holds_none : (file : List ℕ) (at : ℕ) (payloads : List (List ℕ)) → 1 < length file → IsDamaged file at → HasEntries file payloads → ⊥
 damaged_holds_none file at payloads long damaged (inl short) = omega (arith, short.0)
 damaged_holds_none file at payloads long damaged (inr closed) =
     let reached = damaged.1 in
     bad_chain reached.entries closed.1.entries (drop at file) closed.1.tail reached.good closed.1.good damaged.2 (sym reached.file_is ∙ closed.1.file_is)
 
 -- a file that holds none has no entries
-pub none_is_empty : (file : List ℕ) (payloads : List (List ℕ)) → HoldsNone file → Entries file payloads → payloads ≡ []
+pub none_is_empty : (file : List ℕ) (payloads : List (List ℕ)) → HoldsNone file → HasEntries file payloads → payloads ≡ []
 none_is_empty file payloads none (inl short) = short.1
 none_is_empty file payloads (inl short) (inr closed) = closed_short file closed.0 payloads closed.1 short
 none_is_empty file payloads (inr shut) (inr closed) = by_entries closed.1.entries closed.1.good closed.1.payloads_are closed.1.file_is
@@ -99,11 +99,11 @@ closed_first : (file tail : List ℕ) (entries : List (ℕ × List ℕ)) → map
 closed_first file tail [] is file_is = ap (λ (l : List ℕ). get_or l 0 0) file_is
 closed_first file tail (e ∷ es) is file_is = cc
 
-pub none_of : (file : List ℕ) → Entries file [] → HoldsNone file
+pub none_of : (file : List ℕ) → HasEntries file [] → HoldsNone file
 none_of file (inl short) = inl short.0
 none_of file (inr closed) = inr (closed_first file closed.1.tail closed.1.entries closed.1.payloads_are closed.1.file_is)
 
-pub no_entries : (file : List ℕ) → HoldsNone file → Entries file []
+pub no_entries : (file : List ℕ) → HoldsNone file → HasEntries file []
 no_entries file (inl short) = inl (short, refl)
 no_entries [] (inr first) = inl (omega arith, refl)
 no_entries (b ∷ rest) (inr first) = inr (
@@ -145,7 +145,7 @@ log_laws = record {
 
 -- ---- any journal on any disk
 
--- where there is an entry, one stands at the front
+-- where there is an entry, one stands at the beginning
 pub first_there : {J : Type 0} (stands : J → Image → List (List ℕ) → Type 0) (log : J) (image : Image) (payloads : List (List ℕ)) →
     stands log image payloads → payloads ≢ []
     → (payload : List ℕ) × IsEntryAt stands log image 0 payload
@@ -158,7 +158,7 @@ pub still_behind : {J D : Type 0} {may_leave : D → Image → Type 0} {files : 
     {stands : J → Image → List (List ℕ) → Type 0} {end : J → ℕ}
     → JournalLaws files entries holds_none is_damaged stands end → (log : J) (old new : D) (payloads : List (List ℕ)) (step : Image → Image → Type 0)
     → ((b c : Image) → step b c → (name : List ℕ) → files name → c name ≡ b name)
-    → ((c : Image) → may_leave new c → After (may_leave old) step c)
+    → ((c : Image) → may_leave new c → IsAfter (may_leave old) step c)
     → IsBehind may_leave stands log old payloads → IsBehind may_leave stands log new payloads
 still_behind laws log old new payloads step keeps steps behind = record {
   each = λ c left.

@@ -1,7 +1,7 @@
 // Reading an entry.
 ghost use Rattle.std.specs.Prelude.{◌≡◌, ◌<◌, ◌≤◌, ◌+◌, ◌^◌, ◌++◌, ℕ, List, IsTrue, length, drop, IfOk, IsErrOf};
 ghost use Rattle.nuc_base.specs.Faults.{Rose};
-ghost use Rattle.disk_model.specs.Disk.{Leaves};
+ghost use Rattle.disk_model.specs.Disk.{HasLeft};
 ghost use Rattle.gate_log.specs.Entries.{most_payload};
 ghost use Rattle.gate_log.specs.Place.{EntryAt};
 
@@ -63,7 +63,7 @@ impl Log {
         ensures no_further { IfOk result (λ r. r.1 ≤ at + 5 + length r.0) }
         ensures fits { IfOk result (λ r. length r.0 ≤ most_payload) }
         ensures seen { D.seen disk.new ≡ D.seen disk.old }
-        ensures moments { Leaves D.moment D.left_since disk.old disk.new (D.may_leave disk.old) }
+        ensures moments { HasLeft D.moment D.left_since disk.old disk.new (D.may_leave disk.old) }
         ensures cause { IsErrOf result EntryFault.Disk → Rose (D.faults disk.old) (D.faults disk.new) }
         ensures quiet { ¬ (IsErrOf result EntryFault.Disk) → D.faults disk.new ≡ D.faults disk.old }
         ensures later { D.faults disk.old ≤ D.faults disk.new }

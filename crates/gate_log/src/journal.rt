@@ -1,10 +1,10 @@
 // A journal, whichever way it keeps its entries.
 ghost use Rattle.std.specs.Prelude.{◌≡◌, ◌<◌, ◌≤◌, ◌+◌, ◌++◌, ◌∷◌, [], ◌↔◌, ◌⊎◌, ℕ, Bool, List, IsTrue, IsErrOf, length, IfOk, OnOk};
 ghost use Rattle.nuc_base.specs.Faults.{HasCause, Rose};
-ghost use Rattle.disk_model.specs.Disk.{Image, After, Leaves};
+ghost use Rattle.disk_model.specs.Disk.{Image, IsAfter, HasLeft};
 ghost use Rattle.gate_log.specs.Entries.{most_file, most_payload};
 ghost use Rattle.gate_log.specs.Found.{FindsBy};
-ghost use Rattle.gate_log.specs.Journal.{Within, AreSettled, IsBehind, BeforeOrAfter, JournalLaws};
+ghost use Rattle.gate_log.specs.Journal.{IsChangeIn, AreSettled, IsBehind, BeforeOrAfter, JournalLaws};
 ghost use Rattle.gate_log.specs.Place.{IsEntryAt};
 ghost use Rattle.gate_log.specs.Turned.{IsPut, BeginsStore, BeginsTurn, BeforeOrPut};
 
@@ -59,7 +59,7 @@ pub trait Journal {
         // Whatever the journal holds, a crash then leaves it as it reads.
         ensures settled { ¬ (IsErrOf result FindFault.Disk) → AreSettled D.seen D.may_leave files disk.new }
         ensures seen { D.seen disk.new ≡ D.seen disk.old }
-        ensures moments { Leaves D.moment D.left_since disk.old disk.new (D.may_leave disk.old) }
+        ensures moments { HasLeft D.moment D.left_since disk.old disk.new (D.may_leave disk.old) }
         ensures cause { IsErrOf result FindFault.Disk → Rose (D.faults disk.old) (D.faults disk.new) }
         ensures quiet { ¬ (IsErrOf result FindFault.Disk) → D.faults disk.new ≡ D.faults disk.old }
         ensures later { D.faults disk.old ≤ D.faults disk.new };
@@ -70,7 +70,7 @@ pub trait Journal {
         requires settled { AreSettled D.seen D.may_leave files disk.old }
         ensures made { IfOk result (λ log. (end log ≡ 0) × IsBehind D.may_leave stands log disk.new []) }
         ensures number { IfOk result (λ log. number log ≡ 0) }
-        ensures any_moment { Leaves D.moment D.left_since disk.old disk.new (After (D.may_leave disk.old) (Within files holds_none)) }
+        ensures any_moment { HasLeft D.moment D.left_since disk.old disk.new (IsAfter (D.may_leave disk.old) (IsChangeIn files holds_none)) }
         ensures others { IsTrue D.is_modelled → (name : List ℕ) → ¬ (files name) → D.seen disk.new name ≡ D.seen disk.old name }
         ensures cause { HasCause (D.faults disk.old) (D.faults disk.new) result }
         ensures quiet { OnOk result (D.faults disk.new ≡ D.faults disk.old) };
@@ -83,7 +83,7 @@ pub trait Journal {
         requires some { 1 ≤ length payload.now }
         requires fits { length payload.now ≤ most_payload }
         ensures any_moment { (payloads : List (List ℕ)) → IsBehind D.may_leave stands self.old disk.old payloads →
-            Leaves D.moment D.left_since disk.old disk.new (After (D.may_leave disk.old) (Within files (BeforeOrAfter entries payloads payload.now))) }
+            HasLeft D.moment D.left_since disk.old disk.new (IsAfter (D.may_leave disk.old) (IsChangeIn files (BeforeOrAfter entries payloads payload.now))) }
         ensures added { (payloads : List (List ℕ)) → IsBehind D.may_leave stands self.old disk.old payloads →
             OnOk result (IsBehind D.may_leave stands self.new disk.new (payloads ++ payload.now ∷ [])) }
         ensures place { OnOk result (end self.new ≡ end self.old + 5 + length payload.now) }
@@ -110,7 +110,7 @@ pub trait Journal {
         ensures no_further { IfOk result (λ r. r.1 ≤ at + 5 + length r.0) }
         ensures fits { IfOk result (λ r. length r.0 ≤ most_payload) }
         ensures seen { D.seen disk.new ≡ D.seen disk.old }
-        ensures moments { Leaves D.moment D.left_since disk.old disk.new (D.may_leave disk.old) }
+        ensures moments { HasLeft D.moment D.left_since disk.old disk.new (D.may_leave disk.old) }
         ensures cause { IsErrOf result EntryFault.Disk → Rose (D.faults disk.old) (D.faults disk.new) }
         ensures quiet { ¬ (IsErrOf result EntryFault.Disk) → D.faults disk.new ≡ D.faults disk.old }
         ensures later { D.faults disk.old ≤ D.faults disk.new };
@@ -128,7 +128,7 @@ pub trait Journal {
     fn begin_turn<D: Disk>(&mut self, disk: &mut D) -> Result<(), DiskFault>
         requires open { (payloads : List (List ℕ)) × IsBehind D.may_leave stands self.old disk.old payloads }
         ensures any_moment { (payloads : List (List ℕ)) → IsBehind D.may_leave stands self.old disk.old payloads →
-            Leaves D.moment D.left_since disk.old disk.new (After (D.may_leave disk.old) (Within files (λ c. entries c payloads))) }
+            HasLeft D.moment D.left_since disk.old disk.new (IsAfter (D.may_leave disk.old) (IsChangeIn files (λ c. entries c payloads))) }
         ensures stays { (payloads : List (List ℕ)) → IsBehind D.may_leave stands self.old disk.old payloads →
             OnOk result (IsBehind D.may_leave stands self.new disk.new payloads) }
         ensures same { (end self.new ≡ end self.old) × (number self.new ≡ number self.old) × (turns self.new ≡ turns self.old) }
@@ -145,7 +145,7 @@ pub trait Journal {
         requires fits { length payload.now ≤ most_payload }
         requires room { IsTrue (turns self.old) → put_end self.old + 6 + length payload.now ≤ most_file }
         ensures any_moment { (payloads : List (List ℕ)) → IsBehind D.may_leave stands self.old disk.old payloads →
-            Leaves D.moment D.left_since disk.old disk.new (After (D.may_leave disk.old) (Within files (λ c. entries c payloads))) }
+            HasLeft D.moment D.left_since disk.old disk.new (IsAfter (D.may_leave disk.old) (IsChangeIn files (λ c. entries c payloads))) }
         ensures stays { (payloads : List (List ℕ)) → IsBehind D.may_leave stands self.old disk.old payloads →
             OnOk result (IsBehind D.may_leave stands self.new disk.new payloads) }
         ensures same { (end self.new ≡ end self.old) × (number self.new ≡ number self.old) × (turns self.new ≡ turns self.old) }
@@ -163,7 +163,7 @@ pub trait Journal {
             BeginsTurn (number self.old + 1) more }
         ensures any_moment { (payloads more : List (List ℕ)) → IsBehind D.may_leave stands self.old disk.old payloads →
             IsPut D.is_modelled D.seen put_there self.old disk.old more →
-            Leaves D.moment D.left_since disk.old disk.new (After (D.may_leave disk.old) (Within files (BeforeOrPut entries payloads more))) }
+            HasLeft D.moment D.left_since disk.old disk.new (IsAfter (D.may_leave disk.old) (IsChangeIn files (BeforeOrPut entries payloads more))) }
         ensures turned { (more : List (List ℕ)) → IsTrue (turns self.old) → IsPut D.is_modelled D.seen put_there self.old disk.old more →
             OnOk result ((number self.new ≡ number self.old + 1) × (end self.new ≡ put_end self.old) × IsBehind D.may_leave stands self.new disk.new more) }
         ensures others { IsTrue D.is_modelled → (name : List ℕ) → ¬ (files name) → D.seen disk.new name ≡ D.seen disk.old name }

@@ -2,7 +2,7 @@
 ghost use Rattle.std.specs.Prelude.{◌≡◌, ◌≢◌, ◌<◌, ◌≤◌, ◌+◌, ◌++◌, ◌∷◌, [], ◌↔◌, ℕ, List, IsTrue, IsErrOf, length, take, OnOk};
 ghost use Rattle.std.specs.Int.{w32, to_be_bytes};
 ghost use Rattle.nuc_base.specs.Faults.{HasCause, Rose};
-ghost use Rattle.disk_model.specs.Disk.{Holds, Torn, Step, After, Settled, Leaves};
+ghost use Rattle.disk_model.specs.Disk.{IsPutAt, Torn, Step, IsAfter, Settled, HasLeft};
 ghost use Rattle.gate_log.specs.Entries.{most_file, most_payload};
 
 use disk_model::{Disk, DiskFault};
@@ -48,8 +48,8 @@ fn stage<D: Disk>(disk: &mut D, file: &str, end: u64, payload: &[u8]) -> Result<
     ensures written { IsTrue D.is_modelled → Step file.now (λ old new. OnOk result ((rest : List ℕ) ×
         (new ≡ take (end + 1) old ++ to_be_bytes w32 (length payload.now) ++ payload.now ++ 0 ∷ rest))) (D.seen disk.old) (D.seen disk.new) }
     ensures durable { OnOk result (Settled (D.may_leave disk.new) file.now (D.seen disk.new file.now)) }
-    ensures moments { Leaves D.moment D.left_since disk.old disk.new
-        (After (D.may_leave disk.old) (Step file.now (λ old new. take (end + 1) new ≡ take (end + 1) old))) }
+    ensures moments { HasLeft D.moment D.left_since disk.old disk.new
+        (IsAfter (D.may_leave disk.old) (Step file.now (λ old new. take (end + 1) new ≡ take (end + 1) old))) }
     ensures cause { HasCause (D.faults disk.old) (D.faults disk.new) result }
     ensures quiet { OnOk result (D.faults disk.new ≡ D.faults disk.old) }
 {
@@ -63,9 +63,9 @@ fn stage<D: Disk>(disk: &mut D, file: &str, end: u64, payload: &[u8]) -> Result<
 /// Opens the closed gate at `end`, and makes that stable.
 pub fn open_gate<D: Disk>(disk: &mut D, file: &str, end: u64) -> Result<(), DiskFault>
     requires within { IsTrue D.is_modelled → end ≤ length (D.seen disk.old file.now) }
-    ensures written { IsTrue D.is_modelled → Step file.now (λ old new. OnOk result (Holds end (1 ∷ []) old new)) (D.seen disk.old) (D.seen disk.new) }
+    ensures written { IsTrue D.is_modelled → Step file.now (λ old new. OnOk result (IsPutAt end (1 ∷ []) old new)) (D.seen disk.old) (D.seen disk.new) }
     ensures durable { OnOk result (Settled (D.may_leave disk.new) file.now (D.seen disk.new file.now)) }
-    ensures moments { Leaves D.moment D.left_since disk.old disk.new (After (D.may_leave disk.old) (Step file.now (Torn end 1))) }
+    ensures moments { HasLeft D.moment D.left_since disk.old disk.new (IsAfter (D.may_leave disk.old) (Step file.now (Torn end 1))) }
     ensures cause { HasCause (D.faults disk.old) (D.faults disk.new) result }
     ensures quiet { OnOk result (D.faults disk.new ≡ D.faults disk.old) }
 {
@@ -74,7 +74,7 @@ pub fn open_gate<D: Disk>(disk: &mut D, file: &str, end: u64) -> Result<(), Disk
 }
 
 impl Log {
-    ghost use Rattle.gate_log.specs.Journal.{Within, IsBehind, BeforeOrAfter, files_of, stands_in, entries_in};
+    ghost use Rattle.gate_log.specs.Journal.{IsChangeIn, IsBehind, BeforeOrAfter, files_of, stands_in, entries_in};
 
     /// Adds an entry with this payload of 1 to 33,554,432 bytes to the journal in this file. It is there, whole, or not there, whenever a crash
     /// comes: all but its gate is stable before the gate is opened.
@@ -89,8 +89,8 @@ impl Log {
         requires fits { length payload.now ≤ most_payload }
         // A crash at any moment of the call leaves the entries from before it, with the new one or without, and the other files.
         ensures any_moment { (payloads : List (List ℕ)) → IsBehind D.may_leave (stands_in file.now) self.old disk.old payloads →
-            Leaves D.moment D.left_since disk.old disk.new
-            (After (D.may_leave disk.old) (Within (files_of file.now) (BeforeOrAfter (entries_in file.now) payloads payload.now))) }
+            HasLeft D.moment D.left_since disk.old disk.new
+            (IsAfter (D.may_leave disk.old) (IsChangeIn (files_of file.now) (BeforeOrAfter (entries_in file.now) payloads payload.now))) }
         // After `Ok` it is there.
         ensures added { (payloads : List (List ℕ)) → IsBehind D.may_leave (stands_in file.now) self.old disk.old payloads →
             OnOk result (IsBehind D.may_leave (stands_in file.now) self.new disk.new (payloads ++ payload.now ∷ [])) }

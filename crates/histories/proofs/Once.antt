@@ -26,7 +26,7 @@ once_more : (taken : Bool) (records : List Record) (r : Record) → (takes_docum
 once_more taken [] r first once = (first, tt)
 once_more taken (x ∷ records) r first once = (once.0, once_more (taken || takes_document x) records r first once.1)
 
--- ---- what a place keeps of it
+-- ---- what a state keeps of it
 
 record Counts (p q : SessionState) : Type 0 where
   serves : q.serves ≡ p.serves

@@ -6,7 +6,7 @@ use Rattle.nuc_base.specs.declared.status.Status.TheVariants as statuses
 use Rattle.records.specs.Stored.{Record}
 use Rattle.device.specs.Devices.{Device}
 use Rattle.device.specs.Lawful.{Run}
-use Rattle.step_runner.specs.Entries.{Grows, Told}
+use Rattle.step_runner.specs.Entries.{HasGrownBy, Told}
 use Rattle.components.specs.Components.{Components, is_childless, is_stopped}
 use Rattle.components.specs.Turns.{IsQuiet, owes}
 use Rattle.components.specs.Answers.{has_answered}
@@ -14,23 +14,23 @@ use Rattle.components.specs.Events.{later}
 use Rattle.histories.specs.Phases.{duty_of, is_idle, is_current, is_shutting_down}
 use Rattle.histories.specs.TraceEvents.{TraceEvent, records_of, entries_of}
 use Rattle.histories.specs.States.{SessionState, beginning, state_after}
-use Rattle.histories.specs.Follows.{IsProper, Lives}
+use Rattle.histories.specs.Follows.{IsProper, IsLiving}
 
--- From a state on this happened. The records are those that were added, each lawful in its turn, and the entries those that the runner told.
+-- From a state on this happened. The records are those that were added, each lawful in order, and the entries those that the runner told.
 pub record Course (p : SessionState) (h : List TraceEvent) (old new : Told) (old_kept new_kept : List Record) : Type 0 where
   pub proper : IsProper p h
-  pub list : Grows old.list new.list (entries_of h)
+  pub list : HasGrownBy old.list new.list (entries_of h)
   pub kept : new_kept ≡ old_kept ++ records_of h
   pub lawful : Run p.device (records_of h) (state_after p h).device
 
 -- The device, the components and the runner are where the history leaves them. The supervisor may not know yet of the moment that was asked for last.
-pub record Stands (p : SessionState) (device : Device) (world : Components) (told : Told) (living : List ℕ) : Type 0 where
+pub record IsStateOf (p : SessionState) (device : Device) (world : Components) (told : Told) (living : List ℕ) : Type 0 where
   pub device_is : p.device ≡ device
   pub world_is : p.world ≡ later told.moment world
   pub answered : has_answered world ≡ true
   pub not_before : world.moment ≤ told.moment
   pub asked : told.asked ≡ p.fresh
-  pub children : (n : ℕ) → Contains living n ↔ Lives n p
+  pub children : (n : ℕ) → Contains living n ↔ IsLiving n p
 
 -- No component may act by the moment that was told last.
 abbrev pub IsAtRest : Told → Components → Type 0
@@ -51,7 +51,7 @@ pub record IsBack (p : SessionState) : Type 0 where
   pub there : (is_current p.generation ≡ true) ⊎ (is_stopped p.world ≡ true)
   pub boot : p.boot ≡ None
   pub boot_end : p.boot_end ≡ None
-  pub told : list_any owes p.world.parts ≡ false
+  pub owes_none : list_any owes p.world.parts ≡ false
   pub over : p.over ≡ false
   pub cut : p.cut ≡ false
 
@@ -83,7 +83,7 @@ pub record IsEnd (p : SessionState) (status : Status) (rose : Bool) : Type 0 whe
   pub bare : IsBare p
   pub stopped : gives_up status ≡ false → is_stopped p.world ≡ true
   pub cut : p.cut ≡ true → gives_up status ≡ true
-  pub told : leaves_open status ≡ false → list_any owes p.world.parts ≡ false
+  pub owes_none : leaves_open status ≡ false → list_any owes p.world.parts ≡ false
   pub recorded : (p.boot_end ≡ None) ⊎ ((leaves_open status ≡ true) × (rose ≡ true))
   pub restarts : is_restart status ≡ true → p.over ≡ true
   pub over : p.over ≡ true → (is_restart status ≡ true) ⊎ (gives_up status ≡ true)

@@ -44,28 +44,28 @@ abbrev pub HasStep : ComponentState → Step → (Prepared → Type 0) → Type 
 HasStep p s P = IsSomeAnd (prepared_of p.fitted s) P
 
 -- this is started, and needs no probe or had one
-abbrev pub Starts : SessionState → Command → Prepared → Type 0
-Starts p c m = (c ≡ m.command) × ((m.skip ≡ None) ⊎ (p.probed ≡ true))
+abbrev pub IsStartOf : SessionState → Command → Prepared → Type 0
+IsStartOf p c m = (c ≡ m.command) × ((m.skip ≡ None) ⊎ (p.probed ≡ true))
 
-abbrev pub Probes : SessionState → Skip → Prepared → Type 0
-Probes p x m = (m.skip ≡ Some x) × (p.probed ≡ false)
+abbrev pub IsProbeOf : SessionState → Skip → Prepared → Type 0
+IsProbeOf p x m = (m.skip ≡ Some x) × (p.probed ≡ false)
 
--- it is the turn of the component, and its step was begun
+-- the component is next, and its step was begun
 abbrev pub MayTry : SessionState → ℕ → Step → (Prepared → Type 0) → Type 0
 MayTry p k s P = IsNext p.world k × At k (λ q. (is_begun s q ≡ true) × HasStep q s P) p.world.parts
 
 abbrev pub MayRun : Duty → SessionState → Seen → ℕ → Step → Type 0
-MayRun d p (seen.Started n c) k s = MayTry p k s (Starts p c)
-MayRun d p (seen.Refused c) k s = MayTry p k s (Starts p c)
-MayRun d p (seen.Exists x found) k s = MayTry p k s (Probes p (skips.Exists x))
-MayRun d p (seen.OnPath x found) k s = MayTry p k s (Probes p (skips.OnPath x))
+MayRun d p (seen.Started n c) k s = MayTry p k s (IsStartOf p c)
+MayRun d p (seen.Refused c) k s = MayTry p k s (IsStartOf p c)
+MayRun d p (seen.Exists x found) k s = MayTry p k s (IsProbeOf p (skips.Exists x))
+MayRun d p (seen.OnPath x found) k s = MayTry p k s (IsProbeOf p (skips.OnPath x))
 MayRun d p (seen.Killed n) k s = IsNext p.world k × MayKill p.world n k s
 MayRun d p (seen.Ended n e limit) k s = MayWait d p limit × (owner n p.world.parts ≡ Some (k, s))
 MayRun d p (seen.Elapsed limit) k s = ⊥
 
 -- ---- bootstraps
 
--- It is the turn of this bootstrap, which was begun, all components are stopped, and every failure and end is recorded.
+-- This bootstrap, which was begun, is next, all components are stopped, and every failure and end is recorded.
 pub record MayBoot (d : Duty) (p : SessionState) (m : Prepared) : Type 0 where
   pub phase : has_boots d.phase ≡ true
   pub begun : d.begun ≡ true
@@ -74,10 +74,10 @@ pub record MayBoot (d : Duty) (p : SessionState) (m : Prepared) : Type 0 where
   pub at : ℕ
   pub item : Item
   pub there : slice_get d.boots at ≡ Some item
-  pub turn : d.turn ≡ Some item.name
+  pub next : d.next_bootstrap ≡ Some item.name
   pub prepared : IsStepAt origin d.boots at step.Bootstrap (Some m)
   pub stopped : is_stopped p.world ≡ true
-  pub told : list_any owes p.world.parts ≡ false
+  pub owes_none : list_any owes p.world.parts ≡ false
   pub alone : p.boot ≡ None
   pub no_end : p.boot_end ≡ None
 
@@ -85,10 +85,10 @@ abbrev pub IsBootChild : ℕ → SessionState → Type 0
 IsBootChild n p = IsSomeAnd p.boot (λ (c : Child). c.number ≡ n)
 
 abbrev pub MayBooted : Duty → SessionState → Seen → Prepared → Type 0
-MayBooted d p (seen.Started n c) m = MayBoot d p m × Starts p c m
-MayBooted d p (seen.Refused c) m = MayBoot d p m × Starts p c m
-MayBooted d p (seen.Exists x found) m = MayBoot d p m × Probes p (skips.Exists x) m
-MayBooted d p (seen.OnPath x found) m = MayBoot d p m × Probes p (skips.OnPath x) m
+MayBooted d p (seen.Started n c) m = MayBoot d p m × IsStartOf p c m
+MayBooted d p (seen.Refused c) m = MayBoot d p m × IsStartOf p c m
+MayBooted d p (seen.Exists x found) m = MayBoot d p m × IsProbeOf p (skips.Exists x) m
+MayBooted d p (seen.OnPath x found) m = MayBoot d p m × IsProbeOf p (skips.OnPath x) m
 MayBooted d p (seen.Killed n) m = IsBootChild n p × (has_passed p.world.moment (boot_deadline p.boot) ≡ true)
 MayBooted d p (seen.Ended n e limit) m = MayWait d p limit × IsBootChild n p
 MayBooted d p (seen.Elapsed limit) m = ⊥
@@ -99,18 +99,18 @@ MaySleep d p s = ⊥
 
 -- ---- giving up
 
-abbrev pub Lives : ℕ → SessionState → Type 0
-Lives n p = IsSome (owner n p.world.parts) ⊎ IsBootChild n p
+abbrev pub IsLiving : ℕ → SessionState → Type 0
+IsLiving n p = IsSome (owner n p.world.parts) ⊎ IsBootChild n p
 
 abbrev pub MayCut : SessionState → Seen → Type 0
-MayCut p (seen.Killed n) = Lives n p
+MayCut p (seen.Killed n) = IsLiving n p
 MayCut p s = ⊥
 
 -- ---- records
 
 -- No failure and no end of a bootstrap is to be recorded, no bootstrap lives, and the call is not at its end.
 pub record IsClear (p : SessionState) : Type 0 where
-  pub told : list_any owes p.world.parts ≡ false
+  pub owes_none : list_any owes p.world.parts ≡ false
   pub alone : p.boot ≡ None
   pub no_end : p.boot_end ≡ None
   pub on : is_shutting_down p.generation ≡ false
@@ -140,11 +140,11 @@ abbrev pub MayTakeBy : Bool → SessionState → Type 0
 MayTakeBy true p = MayTake p
 MayTakeBy false p = p.taken ≡ false
 
--- No bootstrap of the set is to run again where the pending deployment turns back now.
+-- No bootstrap of the set is to run again where the pending deployment is rolled back now.
 abbrev pub HasNoBacks : Device → Type 0
 HasNoBacks d = IsSomeAnd d.pending (λ q. backs d.origin d.set q.plan (reach_of q) ≡ [])
 
--- Whether the record is lawful is no matter of this: it is said of the records alone. Of the two records that turn a deployment
+-- Whether the record is lawful is no matter of this: it is said of the records alone. Of the two records that roll a deployment
 -- back, the one that names no bootstraps is kept only where there are none to run again.
 abbrev pub MayKeep : SessionState → Record → Type 0
 MayKeep p (Accepted x) = IsClear p × IsQuiet p.world × MayTakeBy p.serves p
@@ -178,12 +178,12 @@ pub record MayChange (d : Duty) (p : SessionState) (fitted : List Fitted) (count
   pub recorded : counts ≡ d.counts
   pub few : has_three counts ≡ false
   pub mode : steady ≡ is_idle d.phase
-  pub told : list_any owes p.world.parts ≡ false
+  pub owes_none : list_any owes p.world.parts ≡ false
   pub answered : list_any is_unstarted p.world.parts ≡ false
 
 -- before the first bootstrap of a stage
 abbrev pub MayClear : Duty → SessionState → Type 0
-MayClear d p = IsSome d.turn × (p.boot ≡ None) × (p.boot_end ≡ None)
+MayClear d p = IsSome d.next_bootstrap × (p.boot ≡ None) × (p.boot_end ≡ None)
 
 -- the inbox is closed, or was asked often enough, and what it gave last was waited for
 abbrev pub MayLeave : SessionState → Type 0

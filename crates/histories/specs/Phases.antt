@@ -29,24 +29,48 @@ pub record Duty : Type 0 where
   pub items : List Item  -- who runs
   pub counts : List ℕ  -- how often each of them failed
   pub boots : List Item  -- among whom the bootstraps are
-  pub turn : Option (List ℕ)  -- whose bootstrap comes next
+  pub next_bootstrap : Option (List ℕ)  -- whose bootstrap comes next
   pub begun : Bool  -- it was begun
 
 -- whose bootstrap comes next; after a failed one none does
-abbrev pub turn_of : Pending → Option (List ℕ)
-turn_of q = if q.boot_failed then None else next_boot q
+abbrev pub next_bootstrap_of : Pending → Option (List ℕ)
+next_bootstrap_of q = if q.boot_failed then None else next_boot q
 
 abbrev pub duty_in : Device → Pending → Duty
 duty_in d q = elim q.stage [
-  | stages.Booting ↦ record { origin = d.origin; phase = booting; items = d.set; counts = q.failures; boots = q.plan.items; turn = turn_of q; begun = q.begun }
-  | stages.Activating ↦ record { origin = d.origin; phase = activating; items = q.plan.items; counts = q.failures; boots = []; turn = None; begun = false }
-  | stages.Backing ↦ record { origin = d.origin; phase = backing; items = d.set; counts = q.failures; boots = d.set; turn = turn_of q; begun = q.begun }
-  | stages.Rolling ↦ record { origin = d.origin; phase = rolling; items = d.set; counts = q.failures; boots = []; turn = None; begun = false }
+  | stages.Booting ↦ record {
+    origin = d.origin;
+    phase = booting;
+    items = d.set;
+    counts = q.failures;
+    boots = q.plan.items;
+    next_bootstrap = next_bootstrap_of q;
+    begun = q.begun;
+  }
+  | stages.Activating ↦ record {
+    origin = d.origin;
+    phase = activating;
+    items = q.plan.items;
+    counts = q.failures;
+    boots = [];
+    next_bootstrap = None;
+    begun = false;
+  }
+  | stages.Backing ↦ record {
+    origin = d.origin;
+    phase = backing;
+    items = d.set;
+    counts = q.failures;
+    boots = d.set;
+    next_bootstrap = next_bootstrap_of q;
+    begun = q.begun;
+  }
+  | stages.Rolling ↦ record { origin = d.origin; phase = rolling; items = d.set; counts = q.failures; boots = []; next_bootstrap = None; begun = false }
 ]
 
 abbrev pub duty_of : Device → Duty
 duty_of d = elim d.pending [
-  | None ↦ record { origin = d.origin; phase = idle; items = d.set; counts = no_failures; boots = []; turn = None; begun = false }
+  | None ↦ record { origin = d.origin; phase = idle; items = d.set; counts = no_failures; boots = []; next_bootstrap = None; begun = false }
   | Some q ↦ duty_in d q
 ]
 

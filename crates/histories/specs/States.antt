@@ -13,7 +13,7 @@ use Rattle.step_runner.specs.declared.entries.Seen.TheVariants as seen
 use Rattle.components.specs.Components.{Components, Child, owner, child_gone, is_stopped}
 use Rattle.components.specs.Deadlines.{deadline_after}
 use Rattle.components.specs.Lives.{lived_at}
-use Rattle.components.specs.Events.{started, refused, skipped, killed, ended, told_at, told_of, later}
+use Rattle.components.specs.Events.{started, refused, skipped, killed, ended, heard_at, heard_of, later}
 use Rattle.components.specs.Changes.{changed_to, all_stopped, steadied}
 use Rattle.components.specs.declared.kinds.Prepared.{Prepared}
 use Rattle.histories.specs.Phases.{duty_of, is_idle, begins_stage, Generation, previous, draining, current, shutting_down}
@@ -104,7 +104,7 @@ booted (seen.Elapsed l) m p = p
 
 -- a record and the components: a failure is recorded, and at a close all failures are forgotten
 abbrev pub kept_by : Record → Components → Components
-kept_by (StepFailed n s e) w = told_of n w
+kept_by (StepFailed n s e) w = heard_of n w
 kept_by (Closed o) w = steadied w
 kept_by r w = w
 
@@ -128,7 +128,7 @@ asks_restart e = false
 
 -- A bootstrap's end after which the device is restarted: it asked for that, or was the last one and good. It leaves this device.
 abbrev pub restarts : Record → Device → Bool
-restarts (BootEnded n e) d = asks_restart e || (goes_on e && is_none (duty_of d).turn)
+restarts (BootEnded n e) d = asks_restart e || (goes_on e && is_none (duty_of d).next_bootstrap)
 restarts r d = false
 
 abbrev pub kept : Record → SessionState → SessionState
@@ -163,7 +163,7 @@ leaves p (KilledOnAbort e) = noted e.seen (cut_off e.seen p)
 leaves p (Recorded r) = kept r p
 leaves p (Moved k e) = record p { world = lived_at k e p.world; probed = false }
 leaves p (ReadClock m) = record p { world = later m p.world; fresh = true; probed = false }
-leaves p (Heard k) = record p { world = told_at k p.world; probed = false }
+leaves p (Heard k) = record p { world = heard_at k p.world; probed = false }
 leaves p (InboxAsked a) = record p { answer = Some a; turns = p.turns - 1; probed = false }
 leaves p (Changed f c b) = record p {
   world = changed_to f c b p.world;

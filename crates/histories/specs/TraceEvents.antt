@@ -27,7 +27,7 @@ is_closed a = false
 
 pub data TraceEvent : Type 0 where
   Ran : (entry : RunnerEntry) (who : ℕ) (of : Step) → TraceEvent  -- an entry of the runner, for a component's step
-  Booted : (entry : RunnerEntry) (made : Prepared) → TraceEvent  -- one for the bootstrap whose turn it is
+  Booted : (entry : RunnerEntry) (made : Prepared) → TraceEvent  -- one for the bootstrap that is next
   WaitElapsed : (entry : RunnerEntry) → TraceEvent  -- a wait elapsed
   KilledOnAbort : (entry : RunnerEntry) → TraceEvent  -- a kill with which a call gives up
   Recorded : (kept : Record) → TraceEvent  -- a record is stable

@@ -12,8 +12,8 @@ ghost use Rattle.histories.specs.TraceEvents.{TraceEvent, records_of, entries_of
 ghost use Rattle.histories.specs.States.{SessionState, state_after};
 ghost use Rattle.histories.specs.Follows.{IsProper};
 ghost use Rattle.histories.specs.Once.{CallsTakeOnce};
-ghost use Rattle.histories.specs.Causes.{StartsTold, BootsTold, SleepsTold, EndsTold, BootEndsTold, RecordsOwed, FailuresRecorded, RecordsEnds, BootsInTurn};
-ghost use Rattle.histories.specs.Causes.{TurnsPlain};
+ghost use Rattle.histories.specs.Causes.{StartsOweNone, BootsOweNone, SleepsOweNone, EndsOweNone, BootEndsOweNone, RecordsOwed, FailuresRecorded, RecordsEnds};
+ghost use Rattle.histories.specs.Causes.{BootsStartInOrder, RollbacksPlain};
 
 /// A history goes on where another ends.
 pub fn joins()
@@ -34,19 +34,19 @@ pub fn made_ready()
 {}
 
 /// Failures and ends of bootstraps are recorded before the next step starts and before anything waits, each as it came,
-/// and none is left where neither the disk nor a stream failed. What turns a deployment back without bootstraps is kept
+/// and none is left where neither the disk nor a stream failed. What rolls a deployment back without bootstraps is kept
 /// only where none is to run again.
 pub fn causes()
-    ensures starts { StartsTold }
-    ensures boot_starts { BootsTold }
-    ensures sleeps { SleepsTold }
-    ensures child_ends { EndsTold }
-    ensures boot_ends { BootEndsTold }
+    ensures starts { StartsOweNone }
+    ensures boot_starts { BootsOweNone }
+    ensures sleeps { SleepsOweNone }
+    ensures child_ends { EndsOweNone }
+    ensures boot_ends { BootEndsOweNone }
     ensures records { RecordsOwed }
     ensures recorded { FailuresRecorded }
     ensures ends { RecordsEnds }
-    ensures boots { BootsInTurn }
-    ensures turns { TurnsPlain }
+    ensures boots { BootsStartInOrder }
+    ensures rollbacks { RollbacksPlain }
 {}
 
 /// A call that does not serve takes one document at most, and none where a deployment is pending as it begins.

@@ -165,8 +165,8 @@ abbrev pub begun_up : Origin → SessionState
 begun_up o = before_change (applied (backing_device o) (BootBegun a)) (world_of (running_part (runs item_a [] []) 4 ∷ []))
 
 -- and in a later call the old one comes up
-abbrev pub rolling_place : Origin → SessionState
-rolling_place o = call_begins (back_done o).device
+abbrev pub rolling_state : Origin → SessionState
+rolling_state o = call_begins (back_done o).device
 
 abbrev pub old_up : Fitted
 old_up = starts_up item_a []
@@ -177,4 +177,4 @@ comes_back =
     ∷ Ran (asked 0 (seen.Started 0 (script (codes "s")))) 0 step.Startup ∷ Moved 0 event.MayBegin ∷ Moved 0 event.MayBegin ∷ ReadClock 0 ∷ []
 
 abbrev pub rolls : Origin → SessionState
-rolls o = state_after (rolling_place o) (Changed (old_up ∷ []) no_failures false ∷ [])
+rolls o = state_after (rolling_state o) (Changed (old_up ∷ []) no_failures false ∷ [])

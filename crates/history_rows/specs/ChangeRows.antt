@@ -22,7 +22,7 @@ use Rattle.components.specs.declared.kinds.Prepared.{Prepared}
 use Rattle.histories.specs.TraceEvents.{TraceEvent, Ran, Moved, ReadClock, Changed}
 use Rattle.histories.specs.Phases.{draining}
 use Rattle.histories.specs.States.{SessionState, state_after}
-use Rattle.history_rows.specs.Rows.{item, made, bare, runs, device_of, pending_in, plan_of, place_at, before_change, world_of, idle_part, running_part}
+use Rattle.history_rows.specs.Rows.{item, made, bare, runs, device_of, pending_in, plan_of, state_at, before_change, world_of, idle_part, running_part}
 use Rattle.history_rows.specs.Rows.{starting_part, owing_part, starts_up, asked, not_asked, ends, good, bad, a, b, c, one, two}
 
 -- ---- texts that change
@@ -57,7 +57,7 @@ shutting_part f n m = record (idle_part f state.Stopping 0) {
 
 -- b needs a and shuts down, and a is to be stopped too
 abbrev pub shutting : Origin → SessionState
-shutting o = record (place_at (device_of o [] (Some (pending_in stages.Booting (plan_of [] []) no_failures)))
+shutting o = record (state_at (device_of o [] (Some (pending_in stages.Booting (plan_of [] []) no_failures)))
     (world_of (record (running_part (runs (item a one) [] []) 0) { stop = Some after.Gone } ∷ shutting_part (shuts (item b one) (a ∷ [])) 1 2 ∷ [])))
     { generation = draining }
 

@@ -16,7 +16,7 @@ use Rattle.components.specs.Components.{ComponentState}
 use Rattle.device.specs.Devices.{Device}
 use Rattle.histories.specs.TraceEvents.{TraceEvent, Ran, Recorded, Moved, ReadClock, Changed, StopsAll}
 use Rattle.histories.specs.States.{SessionState, state_after}
-use Rattle.history_rows.specs.Rows.{item, starts_up, recovers, script, device_of, pending_in, plan_of, place_at, call_begins, world_of, idle_part}
+use Rattle.history_rows.specs.Rows.{item, starts_up, recovers, script, device_of, pending_in, plan_of, state_at, call_begins, world_of, idle_part}
 use Rattle.history_rows.specs.Rows.{running_part, starting_part, runs, asked, not_asked, ends, good, bad, a, b, one, two}
 
 abbrev pub old_a : Item
@@ -37,7 +37,7 @@ counts_of n = n ∷ replicate 127 0
 
 -- the new version in this state, with so many recorded failures
 abbrev pub driven : Origin → State → ℕ → SessionState
-driven o s n = place_at (device_of o (old_a ∷ []) (Some (pending_in stages.Activating (plan_of (new_a ∷ []) []) (counts_of n))))
+driven o s n = state_at (device_of o (old_a ∷ []) (Some (pending_in stages.Activating (plan_of (new_a ∷ []) []) (counts_of n))))
     (world_of (idle_part new_up s n ∷ []))
 
 -- its startup begins, and ends after a while
@@ -89,7 +89,7 @@ keeps_it = Moved 0 (event.Stop after.Gone) ∷ StopsAll ∷ Recorded (Closed out
 
 -- the old version breaks too
 abbrev pub breaking : Origin → SessionState
-breaking o = place_at (device_of o (old_a ∷ []) (Some (pending_in stages.Rolling (plan_of (new_a ∷ []) []) (counts_of 2))))
+breaking o = state_at (device_of o (old_a ∷ []) (Some (pending_in stages.Rolling (plan_of (new_a ∷ []) []) (counts_of 2))))
     (world_of (idle_part old_up state.Installed 2 ∷ []))
 
 abbrev pub breaks_too : List TraceEvent
@@ -100,12 +100,12 @@ closes_it = Recorded (Closed outcomes.RollbackNotRequested) ∷ []
 
 -- beside it stands another that may begin
 abbrev pub broken_beside : Origin → SessionState
-broken_beside o = place_at (device_of o (old_a ∷ []) (Some (pending_in stages.Activating (plan_of (new_a ∷ item b one ∷ []) []) (counts_of 3))))
+broken_beside o = state_at (device_of o (old_a ∷ []) (Some (pending_in stages.Activating (plan_of (new_a ∷ item b one ∷ []) []) (counts_of 3))))
     (world_of (idle_part new_up state.Broken 3 ∷ idle_part (starts_up (item b one) []) state.Installed 0 ∷ []))
 
 -- beside it stands another that may begin, and it is up
 abbrev pub beside_up : Origin → SessionState
-beside_up o = place_at (device_of o (old_a ∷ []) (Some (pending_in stages.Activating (plan_of (new_a ∷ item b one ∷ []) []) no_failures)))
+beside_up o = state_at (device_of o (old_a ∷ []) (Some (pending_in stages.Activating (plan_of (new_a ∷ item b one ∷ []) []) no_failures)))
     (world_of (running_part (runs new_a [] []) 7 ∷ idle_part (starts_up (item b one) []) state.Installed 0 ∷ []))
 
 -- a call begins with so many recorded failures
@@ -124,5 +124,5 @@ booting_with o = device_of o [] (Some (pending_in stages.Booting (plan_of (new_a
 
 -- its startup lives
 abbrev pub starting : Origin → SessionState
-starting o = place_at (device_of o (old_a ∷ []) (Some (pending_in stages.Activating (plan_of (new_a ∷ []) []) no_failures)))
+starting o = state_at (device_of o (old_a ∷ []) (Some (pending_in stages.Activating (plan_of (new_a ∷ []) []) no_failures)))
     (world_of (starting_part new_up 7 120000 ∷ []))

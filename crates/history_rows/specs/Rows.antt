@@ -123,12 +123,12 @@ abbrev pub with_recipes : Recipes → SessionState → SessionState
 with_recipes r p = record p { device = record p.device { set = read_as r p.device.set; pending = option_map (plan_read_as r) p.device.pending } }
 
 -- a deployment is driven, and a moment was just asked for
-abbrev pub place_at : Device → Components → SessionState
-place_at d w = record (beginning false 0 d w.moment true) { world = w; generation = current }
+abbrev pub state_at : Device → Components → SessionState
+state_at d w = record (beginning false 0 d w.moment true) { world = w; generation = current }
 
 -- the same where the components are still those of before the stage
 abbrev pub before_change : Device → Components → SessionState
-before_change d w = record (place_at d w) { generation = previous }
+before_change d w = record (state_at d w) { generation = previous }
 
 -- `deploy` or `resume` begins
 abbrev pub call_begins : Device → SessionState

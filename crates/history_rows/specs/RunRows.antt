@@ -15,7 +15,7 @@ use Rattle.device.specs.declared.staged.Stage.TheVariants as stages
 use Rattle.components.specs.Fitted.{Fitted}
 use Rattle.histories.specs.TraceEvents.{TraceEvent, Ran, WaitElapsed, Recorded, Moved, ReadClock, Changed, StopsAll}
 use Rattle.histories.specs.States.{SessionState, state_after}
-use Rattle.history_rows.specs.Rows.{item, made, bare, idle_part, runs, starts_up, skipping, script, device_of, pending_in, plan_of, place_at, call_begins}
+use Rattle.history_rows.specs.Rows.{item, made, bare, idle_part, runs, starts_up, skipping, script, device_of, pending_in, plan_of, state_at, call_begins}
 use Rattle.history_rows.specs.Rows.{world_of, starting_part, asked, not_asked, ends, good, a, one}
 
 -- ---- a component with a run step
@@ -75,7 +75,7 @@ up = starts_up hello []
 
 -- its startup was begun at 0
 abbrev pub limited : Origin → SessionState
-limited o = place_at (device_of o [] (Some (pending_in stages.Activating (plan_of (hello ∷ []) []) no_failures))) (world_of (starting_part up 0 120000 ∷ []))
+limited o = state_at (device_of o [] (Some (pending_in stages.Activating (plan_of (hello ∷ []) []) no_failures))) (world_of (starting_part up 0 120000 ∷ []))
 
 abbrev pub in_time : List TraceEvent
 in_time = Recorded (Closed outcomes.Successful) ∷ Ran (asked 0 (ends good 0 120000)) 0 step.Startup ∷ []
@@ -101,7 +101,7 @@ installing = record (bare hello [] []) { install = Some (made (codes "i") (Some 
 
 -- the component in this state, with so many recorded failures
 abbrev pub refusing : Origin → State → ℕ → SessionState
-refusing o s n = place_at (device_of o [] (Some (pending_in stages.Activating (plan_of (hello ∷ []) []) (n ∷ replicate 127 0))))
+refusing o s n = state_at (device_of o [] (Some (pending_in stages.Activating (plan_of (hello ∷ []) []) (n ∷ replicate 127 0))))
     (world_of (idle_part installing s n ∷ []))
 
 -- its start is refused

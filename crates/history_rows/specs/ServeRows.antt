@@ -14,7 +14,7 @@ use Rattle.components.specs.Fitted.{Fitted}
 use Rattle.components.specs.Components.{Components, ComponentState}
 use Rattle.histories.specs.TraceEvents.{TraceEvent, Ran, WaitElapsed, Recorded, Moved, ReadClock, InboxAsked, Changed, StopsAll, document, nothing, closed}
 use Rattle.histories.specs.States.{SessionState, state_after}
-use Rattle.history_rows.specs.Rows.{item, set_up, runs, starts_up, script, device_of, pending_in, plan_of, place_at, call_begins, serve_begins, world_of}
+use Rattle.history_rows.specs.Rows.{item, set_up, runs, starts_up, script, device_of, pending_in, plan_of, state_at, call_begins, serve_begins, world_of}
 use Rattle.history_rows.specs.Rows.{idle_part, starting_part, owing_part, asked, not_asked, a, b, c, one}
 
 abbrev pub item_d : Item
@@ -139,7 +139,7 @@ two_turns o = state_after (one_turn o) turn_more
 
 -- a is up by a startup step, and is closed
 abbrev pub finishing : Origin → SessionState
-finishing o = state_after (record (place_at (device_of o [] (Some (pending_in stages.Activating (plan_of (item_d ∷ []) []) no_failures)))
+finishing o = state_after (record (state_at (device_of o [] (Some (pending_in stages.Activating (plan_of (item_d ∷ []) []) no_failures)))
     (world_of (idle_part (starts_up item_d []) state.Running 0 ∷ []))) { serves = true; turns = 2 }) (Recorded (Closed outcomes.Successful) ∷ [])
 
 -- a plan whose bootstrap failed, with no component left
@@ -159,15 +159,15 @@ two_device o = device_of o [] (Some (pending_in stages.Activating (plan_of (item
 
 -- a starts, and b needs it
 abbrev pub needed_starts : Origin → SessionState
-needed_starts o = place_at (two_device o) (world_of (starting_part (starts_up item_d []) 0 120000 ∷ idle_part up_h state.Installed 0 ∷ []))
+needed_starts o = state_at (two_device o) (world_of (starting_part (starts_up item_d []) 0 120000 ∷ idle_part up_h state.Installed 0 ∷ []))
 
 -- a starts, and b does not need it
 abbrev pub other_starts : Origin → SessionState
-other_starts o = place_at (two_device o) (world_of (starting_part (starts_up item_d []) 0 120000 ∷ idle_part (runs item_h [] []) state.Installed 0 ∷ []))
+other_starts o = state_at (two_device o) (world_of (starting_part (starts_up item_d []) 0 120000 ∷ idle_part (runs item_h [] []) state.Installed 0 ∷ []))
 
 -- both may begin
 abbrev pub both_wait : Origin → SessionState
-both_wait o = place_at (two_device o) (world_of (idle_part (runs item_d [] []) state.Installed 0 ∷ idle_part (runs item_h [] []) state.Installed 0 ∷ []))
+both_wait o = state_at (two_device o) (world_of (idle_part (runs item_d [] []) state.Installed 0 ∷ idle_part (runs item_h [] []) state.Installed 0 ∷ []))
 
 -- b, which is installed, needs this one softly, or hard
 abbrev pub softly : ComponentState → List ComponentState
@@ -177,13 +177,13 @@ abbrev pub hardly : ComponentState → List ComponentState
 hardly p = p ∷ idle_part up_h state.Installed 0 ∷ []
 
 abbrev pub beside : Origin → List ComponentState → SessionState
-beside o parts = place_at (two_device o) (world_of parts)
+beside o parts = state_at (two_device o) (world_of parts)
 
 -- ---- a call that serves
 
 -- the set has one component
-abbrev pub serve_place : Origin → SessionState
-serve_place o = serve_begins 2 (device_of o (item_d ∷ []) None)
+abbrev pub serve_state : Origin → SessionState
+serve_state o = serve_begins 2 (device_of o (item_d ∷ []) None)
 
 -- ---- a component fails
 
@@ -192,8 +192,8 @@ failing = world_of (owing_part (starts_up item_d []) ∷ [])
 
 -- where nothing is pending
 abbrev pub fails_serving : Origin → SessionState
-fails_serving o = record (place_at (device_of o (item_d ∷ []) None) (record failing { steady = true })) { serves = true; opened = true; turns = 2 }
+fails_serving o = record (state_at (device_of o (item_d ∷ []) None) (record failing { steady = true })) { serves = true; opened = true; turns = 2 }
 
 -- and in a deployment
 abbrev pub fails_driven : Origin → SessionState
-fails_driven o = place_at (two_device o) failing
+fails_driven o = state_at (two_device o) failing

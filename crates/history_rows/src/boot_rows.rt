@@ -20,7 +20,7 @@ ghost use Rattle.history_rows.specs.Rows.{Recipes, read_as, with_recipes, call_b
 ghost use Rattle.history_rows.specs.BootRows.{item_a, items, booting_device, first_boot, second_boot, restart, boots_by, boots_long, boot_lives, boot_over};
 ghost use Rattle.history_rows.specs.BootRows.{boot_failed, restarted, one_done, all_done, begun_device, begun_before, failed_before, boots_again};
 ghost use Rattle.history_rows.specs.BootRows.{boots_or_skips, boot_skips, boot_skipped, boot_probed, boot_refused, newer_a, newer_boots, fails_back, backed};
-ghost use Rattle.history_rows.specs.BootRows.{back_begun, back_done, back_failed, still_up, begun_up, starts_boot, rolling_place, comes_back, rolls};
+ghost use Rattle.history_rows.specs.BootRows.{back_begun, back_done, back_failed, still_up, begun_up, starts_boot, rolling_state, comes_back, rolls};
 
 /// Bootstraps come one at a time, each begun before its start and ended after its end. One that asks for a restart, and
 /// the last good one, end the call.
@@ -88,7 +88,7 @@ pub fn bootstrap_before_its_record()
 {}
 
 /// A bootstrap of the new version fails, and the old version's runs again before the old version comes back. It fails too,
-/// and the deployment closes. No record turns the deployment back that leaves out what is to run again.
+/// and the deployment closes. No record rolls the deployment back that leaves out what is to run again.
 pub fn bootstraps_on_rollback_row()
     ensures fails { (o : Origin) (r : Recipes) (command : Command) → IsStepAt o (read_as r (newer_a ∷ [])) 0 step.Bootstrap (Some (boot_of command)) →
         IsProper (with_recipes r (newer_boots o)) (fails_back command) }
@@ -97,7 +97,7 @@ pub fn bootstraps_on_rollback_row()
     ensures restarts { (o : Origin) → IsEnd (back_done o) statuses.Restart false }
     ensures rolls { (o : Origin) → (duty_of (back_done o).device).phase ≡ rolling }
     ensures changes { (o : Origin) (r : Recipes) (made : List Fitted) → AreFitted o (read_as r (item_a ∷ [])) made →
-        IsProper (with_recipes r (rolling_place o)) (Changed made no_failures false ∷ []) }
+        IsProper (with_recipes r (rolling_state o)) (Changed made no_failures false ∷ []) }
     ensures up { (o : Origin) → IsProper (rolls o) comes_back }
     ensures unable { (o : Origin) (r : Recipes) (command : Command) → IsStepAt o (read_as r (item_a ∷ [])) 0 step.Bootstrap (Some (boot_of command)) →
         IsProper (with_recipes r (backed o)) (back_failed command) }

@@ -11,7 +11,7 @@ ghost use Rattle.components.specs.Made.{AreFitted};
 ghost use Rattle.components.specs.Components.{At, is_stopped};
 ghost use Rattle.components.specs.Turns.{IsNext, may_stop, may_begin, is_to_start, owes};
 ghost use Rattle.components.specs.Acts.{MayKill, NextAct};
-ghost use Rattle.components.specs.Answers.{Answers};
+ghost use Rattle.components.specs.Answers.{IsExpected};
 ghost use Rattle.components.specs.Changes.{changed_to, all_stopped, steadied};
 ghost use Rattle.components.specs.Events.{ended, handed_at};
 ghost use Rattle.components.specs.declared.kinds.Act.TheVariants as acts;
@@ -84,9 +84,9 @@ pub fn two_handed_out()
     ensures second { NextAct (handed_at 0 both_begun_first) (Some (acts.Start 1 step.Run)) (handed_at 1 both_begun) }
     ensures none { NextAct (handed_at 1 both_begun) None (handed_at 1 both_begun) }
     ensures again { At 0 (λ p. is_to_start p ≡ false) (handed_at 0 both_begun_first).parts }
-    ensures answers { Answers (handed_at 1 both_begun) (events.Started 1 step.Run 7) }
-    ensures unasked { Answers both_begun (events.Started 1 step.Run 7) → ⊥ }
-    ensures other { Answers (handed_at 1 both_begun) (events.Started 1 step.Startup 7) → ⊥ }
+    ensures answers { IsExpected (handed_at 1 both_begun) (events.Started 1 step.Run 7) }
+    ensures unasked { IsExpected both_begun (events.Started 1 step.Run 7) → ⊥ }
+    ensures other { IsExpected (handed_at 1 both_begun) (events.Started 1 step.Startup 7) → ⊥ }
     ensures unstopped { At 0 (λ p. may_stop (all_stopped (handed_at 0 both_begun_first)) p ≡ false) (all_stopped (handed_at 0 both_begun_first)).parts }
 {}
 

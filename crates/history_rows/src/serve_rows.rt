@@ -22,7 +22,7 @@ ghost use Rattle.history_rows.specs.Rows.{asked, not_asked, states_of, script};
 ghost use Rattle.history_rows.specs.ServeRows.{item_d, item_h, item_s, new_items, serve_three, brings_up, set_opened, first_run, one_up, begin_run, two_up};
 ghost use Rattle.history_rows.specs.ServeRows.{all_up, takes, serving, changes, changing, stops_two, stopped_two, started_first, starts_second, served};
 ghost use Rattle.history_rows.specs.ServeRows.{stops_three, serve_over, serve_none, none_opened, turn_passes, turn_more, one_turn, two_turns, finishing};
-ghost use Rattle.history_rows.specs.ServeRows.{closed_without, fails_serving, fails_driven, needed_starts, other_starts, both_wait, serve_place, beside};
+ghost use Rattle.history_rows.specs.ServeRows.{closed_without, fails_serving, fails_driven, needed_starts, other_starts, both_wait, serve_state, beside};
 ghost use Rattle.history_rows.specs.ServeRows.{softly, hardly};
 ghost use Rattle.history_rows.specs.Rows.{runs};
 
@@ -81,11 +81,11 @@ pub fn one_at_a_time()
 /// component of the set.
 pub fn serves_nothing()
     ensures changes { (o : Origin) (r : Recipes) (made : List Fitted) → AreFitted o (read_as r (item_d ∷ [])) made →
-        IsProper (with_recipes r (serve_place o)) (brings_up made) }
-    ensures waits { (o : Origin) → MayFollow (state_after (serve_place o) (ReadClock 0 ∷ [])) (WaitElapsed (asked 0 (seen.Elapsed 1000))) → ⊥ }
-    ensures accepts { (o : Origin) (p : Plan) → MayFollow (serve_place o) (Recorded (Accepted p)) → ⊥ }
-    ensures asks { (o : Origin) (x : Answer) → MayFollow (serve_place o) (InboxAsked x) → ⊥ }
-    ensures stops { (o : Origin) → MayFollow (serve_place o) StopsAll → ⊥ }
+        IsProper (with_recipes r (serve_state o)) (brings_up made) }
+    ensures waits { (o : Origin) → MayFollow (state_after (serve_state o) (ReadClock 0 ∷ [])) (WaitElapsed (asked 0 (seen.Elapsed 1000))) → ⊥ }
+    ensures accepts { (o : Origin) (p : Plan) → MayFollow (serve_state o) (Recorded (Accepted p)) → ⊥ }
+    ensures asks { (o : Origin) (x : Answer) → MayFollow (serve_state o) (InboxAsked x) → ⊥ }
+    ensures stops { (o : Origin) → MayFollow (serve_state o) StopsAll → ⊥ }
     ensures finished { (o : Origin) (r : Recipes) (made : List Fitted) → AreFitted o (read_as r (item_d ∷ [])) made →
         IsProper (with_recipes r (finishing o)) (brings_up made) }
     ensures finished_asks { (o : Origin) (x : Answer) → MayFollow (finishing o) (InboxAsked x) → ⊥ }

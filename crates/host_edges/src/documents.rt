@@ -58,7 +58,7 @@ pub fn is_file<R: Files, P: AsPath>(files: &R, path: P) -> io::Result<bool> {
 }
 
 /// The file's bytes, or the first so many of them. Room that they don't fill is given back.
-pub fn read_front<R: Files<File = File>>(
+pub fn read_prefix<R: Files<File = File>>(
     alloc: Global,
     files: &R,
     path: &str,

@@ -4,7 +4,7 @@ ghost use Rattle.edges.specs.Inboxes.{unanswered};
 ghost use Rattle.edges.specs.Waiting.{IsShort};
 ghost use Rattle.host_edges.specs.Real.{inbox_answered, inbox_faults};
 
-use crate::documents::{is_file, json_names, read_front};
+use crate::documents::{is_file, json_names, read_prefix};
 use crate::paths::{Paths, sync_folder};
 use edges::{Answered, EdgeFault, Inbox, InboxFault, Incoming};
 use nuc_base::{Bytes, DOCUMENT_LIMIT, NoMemory};
@@ -50,7 +50,7 @@ impl<'a, R: Files<File = File> + AllocGlobal + Clone + Drop> Listed<'a, R> {
                 break;
             };
             let path = self.paths.entry(INBOX, name.as_str())?;
-            match read_front(alloc, self.files, path, MOST_GIVEN) {
+            match read_prefix(alloc, self.files, path, MOST_GIVEN) {
                 Ok(bytes) => return Ok(Some(bytes)),
                 Err(error) if error.kind() == ErrorKind::NotFound => drop(self.names.pop()),
                 Err(error) => return Err(error),

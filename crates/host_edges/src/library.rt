@@ -3,7 +3,7 @@ ghost use Rattle.nuc_base.specs.Faults.{Rose};
 ghost use Rattle.library_core.specs.Library.{IsWithin, most_given};
 ghost use Rattle.host_edges.specs.Real.{library_faults};
 
-use crate::documents::{is_file, json_names, read_front};
+use crate::documents::{is_file, json_names, read_prefix};
 use crate::paths::Paths;
 use crate::window::read_full;
 use library_core::{Library, LibraryFault, Piece};
@@ -69,7 +69,7 @@ impl<'a, R: Files<File = File> + AllocGlobal + Clone + Drop> Shelf<'a, R> {
             None => None,
         };
         match name {
-            Some(name) => read_front(
+            Some(name) => read_prefix(
                 alloc,
                 self.files,
                 self.paths.entry(RECIPES, name.as_str())?,

@@ -118,7 +118,7 @@ fn spawn<R: Processes + Files<File = File>>(
 impl<'a, R: Processes + Clock + Files<File = File> + Env + AllocGlobal> ShellRunner<'a, R> {
     ghost use Rattle.host_edges.specs.Real.{runner_living};
 
-    /// Starts a child, and keeps it in front of the others, with its number. The clock goes on from the last moment.
+    /// Starts a child, and keeps it before the others, with its number. The clock goes on from the last moment.
     fn try_start(&mut self, command: &Command) -> io::Result<()>
         ensures started { OnOk result (runner_living self.new ≡ self.old.next ∷ runner_living self.old) }
         ensures refused { OnErr result (self.new.children.items ≡ self.old.children.items) }

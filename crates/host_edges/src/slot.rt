@@ -12,7 +12,7 @@ use std::io::ErrorKind;
 use std::os::unix::fs::{FileExt, OpenOptionsExt};
 
 /// How many bytes of a journal's file tell in which turn it was begun: those of its first entry up to the turn's number.
-const FRONT: usize = 14;
+const BEGINNING: usize = 14;
 
 /// An open gate, with which an entry begins.
 const OPEN_GATE: u8 = 1;
@@ -51,7 +51,7 @@ pub(crate) struct Slot {
     opened: Option<Opened>,
     window: Window,
     /// The first bytes of a journal's file as a reader found them with an entry.
-    front: Option<[u8; FRONT]>,
+    beginning: Option<[u8; BEGINNING]>,
     /// Whether readers wait while it is changed.
     is_shared: bool,
 }
@@ -61,7 +61,7 @@ impl Slot {
         Ok(Slot {
             opened: None,
             window: Window::new(alloc)?,
-            front: None,
+            beginning: None,
             is_shared,
         })
     }
@@ -151,7 +151,13 @@ impl Slot {
             return self.window.read(&opened.file, at, into);
         }
         opened.file.lock_shared()?;
-        let count = read_one_turn(&mut self.front, &mut self.window, &opened.file, at, into);
+        let count = read_one_turn(
+            &mut self.beginning,
+            &mut self.window,
+            &opened.file,
+            at,
+            into,
+        );
         opened.file.unlock()?;
         count
     }
@@ -272,7 +278,7 @@ fn options(access: Access) -> OpenOptions {
 /// Reads where the file was not begun anew since its first entry was seen: what was read before would then be of another
 /// state of the journal.
 fn read_one_turn(
-    front: &mut Option<[u8; FRONT]>,
+    beginning: &mut Option<[u8; BEGINNING]>,
     window: &mut Window,
     file: &File,
     at: u64,
@@ -280,14 +286,14 @@ fn read_one_turn(
 ) -> io::Result<usize>
     ensures { IfOk result (λ n. n ≤ length into.old) }
 {
-    let mut found = [0; FRONT];
+    let mut found = [0; BEGINNING];
     read_full(file, 0, &mut found)?;
-    match front {
+    match beginning {
         Some(seen) if *seen != found => return Err(io::Error::from(ErrorKind::InvalidData)),
         _ => {}
     }
     if found[0] == OPEN_GATE {
-        *front = Some(found);
+        *beginning = Some(found);
     }
     window.read(file, at, into)
 }

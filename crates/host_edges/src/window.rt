@@ -1,6 +1,6 @@
 ghost use Rattle.std.specs.Prelude.{◌≤◌, length, IfOk};
 
-use nuc_base::{NoMemory, copy_front};
+use nuc_base::{NoMemory, copy_prefix};
 use std::alloc::Global;
 use std::fs::File;
 use std::io;
@@ -54,7 +54,7 @@ impl Window {
             self.start = at;
         }
         let skipped = self.skipped(at);
-        Ok(copy_front(&self.bytes[skipped..self.filled], into))
+        Ok(copy_prefix(&self.bytes[skipped..self.filled], into))
     }
 
     /// Whether all of these bytes were read ahead.

@@ -3,9 +3,9 @@ use Rattle.std.proofs.Common.{◌≡◌, ◌≢◌, ℕ, List, [], ◌∷◌, �
 use Rattle.std.specs.List.{AllByRecursion}
 use Rattle.interpolation.specs.declared.scope.Scope.{Scope}
 use Rattle.interpolation.specs.Values.{written, replaced}
-use Rattle.interpolation.specs.Variables.{IsInside, HasNoVariable, EndsInside, Part, IsPart, Cutting, joined, IsExpansion, Expanded, IsFront}
+use Rattle.interpolation.specs.Variables.{IsInside, HasNoVariable, EndsInside, Part, IsPart, Cutting, joined, IsExpansion, Expanded, ExpandedPrefix}
 use Rattle.interpolation.specs.Laws.{IsOneCutting, IsOneText}
-use Rattle.interpolation.proofs.Pieces.{Lacks, lacks_front, lacks_back, each_neither, last_same, holds_at, overlap, first_same, braces_differ}
+use Rattle.interpolation.proofs.Pieces.{Lacks, lacks_prefix, lacks_back, each_neither, last_same, holds_at, overlap, first_same, braces_differ}
 
 -- ---- variables
 
@@ -19,45 +19,45 @@ no_close w inside x y e = (holds_at (λ (b : ℕ). (b ≢ 123) × (b ≢ 125)) w
 opened : (w back : List ℕ) → written w ++ back ≡ 123 ∷ (w ++ (125 ∷ back))
 opened w back = ap (λ l. 123 ∷ l) (append_assoc w (125 ∷ []) back)
 
-has : (front w back : List ℕ) → front ++ (written w ++ back) ≡ front ++ (123 ∷ (w ++ (125 ∷ back)))
-has front w back = ap (λ l. front ++ l) (opened w back)
+has : (prefix w back : List ℕ) → prefix ++ (written w ++ back) ≡ prefix ++ (123 ∷ (w ++ (125 ∷ back)))
+has prefix w back = ap (λ l. prefix ++ l) (opened w back)
 
 -- a text without `}` has none
 pub lacks_variable : (text : List ℕ) → Lacks 125 text → HasNoVariable text
-lacks_variable text h front w back inside e =
-    h (front ++ (123 ∷ w)) back (e ∙ has front w back ∙ sym (append_assoc front (123 ∷ w) (125 ∷ back)))
+lacks_variable text h prefix w back inside e =
+    h (prefix ++ (123 ∷ w)) back (e ∙ has prefix w back ∙ sym (append_assoc prefix (123 ∷ w) (125 ∷ back)))
 
 -- the piece does not end inside of a variable
 abbrev pub EndsOutside : List ℕ → Type 0
-EndsOutside piece = (front w : List ℕ) → EndsInside piece front w → ⊥
+EndsOutside piece = (prefix w : List ℕ) → EndsInside piece prefix w → ⊥
 
-after_piece : (piece p front w back d : List ℕ) → HasNoVariable p → IsInside w → 125 ∷ p ≡ d ++ (123 ∷ (w ++ (125 ∷ back))) → ⊥
-after_piece piece p front w back [] h inside e = braces_differ (w ++ (125 ∷ back)) p (sym e)
-after_piece piece p front w back (b ∷ d) h inside e =
+after_piece : (piece p prefix w back d : List ℕ) → HasNoVariable p → IsInside w → 125 ∷ p ≡ d ++ (123 ∷ (w ++ (125 ∷ back))) → ⊥
+after_piece piece p prefix w back [] h inside e = braces_differ (w ++ (125 ∷ back)) p (sym e)
+after_piece piece p prefix w back (b ∷ d) h inside e =
     let tail : p ≡ d ++ (123 ∷ (w ++ (125 ∷ back))) = cc in
     h d w back inside (tail ∙ sym (has d w back))
 
-across : (piece p front w back d : List ℕ) → Lacks 125 piece → EndsOutside piece → IsInside w → piece ≡ front ++ d
+across : (piece p prefix w back d : List ℕ) → Lacks 125 piece → EndsOutside piece → IsInside w → piece ≡ prefix ++ d
     → 123 ∷ (w ++ (125 ∷ back)) ≡ d ++ (125 ∷ p) → ⊥
-across piece p front w back [] lacking shut inside is e = braces_differ (w ++ (125 ∷ back)) p e
-across piece p front w back (b ∷ d) lacking shut inside is e =
+across piece p prefix w back [] lacking shut inside is e = braces_differ (w ++ (125 ∷ back)) p e
+across piece p prefix w back (b ∷ d) lacking shut inside is e =
     let head : b ≡ 123 = cc in
     let tail : w ++ (125 ∷ back) ≡ d ++ (125 ∷ p) = cc in
-    let whole : Lacks 125 (front ++ (b ∷ d)) = rw (← is) lacking in
-    let part : Lacks 125 d = lacks_back 125 (b ∷ []) d (lacks_back 125 front (b ∷ d) whole) in
+    let whole : Lacks 125 (prefix ++ (b ∷ d)) = rw (← is) lacking in
+    let part : Lacks 125 d = lacks_back 125 (b ∷ []) d (lacks_back 125 prefix (b ∷ d) whole) in
     let same = first_same 125 w back d p (no_close w inside) part tail in
-    shut front w (record { is = is ∙ ap₂ (λ x y. front ++ (x ∷ y)) head (sym same.0); inside = inside })
+    shut prefix w (record { is = is ∙ ap₂ (λ x y. prefix ++ (x ∷ y)) head (sym same.0); inside = inside })
 
 -- a plain piece stays plain behind a piece and `}` that end no variable
 pub no_variable_more : (piece p : List ℕ) → Lacks 125 piece → EndsOutside piece → HasNoVariable p → HasNoVariable ((piece ++ (125 ∷ [])) ++ p)
-no_variable_more piece p lacking shut h front w back inside e =
-    let all : piece ++ (125 ∷ p) ≡ front ++ (123 ∷ (w ++ (125 ∷ back))) = sym (append_assoc piece (125 ∷ []) p) ∙ e ∙ has front w back in
+no_variable_more piece p lacking shut h prefix w back inside e =
+    let all : piece ++ (125 ∷ p) ≡ prefix ++ (123 ∷ (w ++ (125 ∷ back))) = sym (append_assoc piece (125 ∷ []) p) ∙ e ∙ has prefix w back in
     ⊎_elim
-    (λ (o : (d : List ℕ) × (front ≡ piece ++ d) × (125 ∷ p ≡ d ++ (123 ∷ (w ++ (125 ∷ back))))). after_piece piece p front w back o.0 h inside o.2)
-    (λ (o : (d : List ℕ) × (piece ≡ front ++ d) × (123 ∷ (w ++ (125 ∷ back)) ≡ d ++ (125 ∷ p))). across piece p front w back o.0 lacking shut inside o.1 o.2)
-    (overlap piece (125 ∷ p) front (123 ∷ (w ++ (125 ∷ back))) all)
+    (λ (o : (d : List ℕ) × (prefix ≡ piece ++ d) × (125 ∷ p ≡ d ++ (123 ∷ (w ++ (125 ∷ back))))). after_piece piece p prefix w back o.0 h inside o.2)
+    (λ (o : (d : List ℕ) × (piece ≡ prefix ++ d) × (123 ∷ (w ++ (125 ∷ back)) ≡ d ++ (125 ∷ p))). across piece p prefix w back o.0 lacking shut inside o.1 o.2)
+    (overlap piece (125 ∷ p) prefix (123 ∷ (w ++ (125 ∷ back))) all)
 
--- ---- fronts
+-- ---- prefixes
 
 abbrev part_of : List ℕ → List ℕ → Part
 part_of plain inside = record { plain = plain; inside = inside }
@@ -74,8 +74,9 @@ regrouped : (a b text rest : List ℕ) → text ≡ rest → (a ++ b) ++ text �
 regrouped a b text rest e = append_assoc a b text ∙ ap (λ l. a ++ (b ++ l)) e
 
 -- a plain piece and a variable
-pub front_variable : (scope : Scope) (plain w : List ℕ) → HasNoVariable plain → IsInside w → IsFront scope (plain ++ written w) (plain ++ replaced scope w)
-front_variable scope plain w h inside text result (cutting, is) = (
+pub prefix_variable : (scope : Scope) (plain w : List ℕ) → HasNoVariable plain → IsInside w
+    → ExpandedPrefix scope (plain ++ written w) (plain ++ replaced scope w)
+prefix_variable scope plain w h inside text result (cutting, is) = (
   cutting_of (part_of plain w ∷ cutting.parts) cutting.last,
   record {
     cut = record {
@@ -88,48 +89,48 @@ front_variable scope plain w h inside text result (cutting, is) = (
 )
 
 abbrev longer : List ℕ → List Part → List ℕ → Cutting
-longer front [] last = cutting_of [] (front ++ last)
-longer front (part ∷ parts) last = cutting_of (part_of (front ++ part.plain) part.inside ∷ parts) last
+longer prefix [] last = cutting_of [] (prefix ++ last)
+longer prefix (part ∷ parts) last = cutting_of (part_of (prefix ++ part.plain) part.inside ∷ parts) last
 
-joined_longer : (instead : List ℕ → List ℕ) (front : List ℕ) (parts : List Part) (last text : List ℕ) → text ≡ joined instead parts last
-    → front ++ text ≡ joined instead (longer front parts last).parts (longer front parts last).last
-joined_longer instead front [] last text e = ap (λ l. front ++ l) e
-joined_longer instead front (part ∷ parts) last text e =
-    ap (λ l. front ++ l) e ∙ sym (append_assoc front part.plain (instead part.inside ++ joined instead parts last))
+joined_longer : (instead : List ℕ → List ℕ) (prefix : List ℕ) (parts : List Part) (last text : List ℕ) → text ≡ joined instead parts last
+    → prefix ++ text ≡ joined instead (longer prefix parts last).parts (longer prefix parts last).last
+joined_longer instead prefix [] last text e = ap (λ l. prefix ++ l) e
+joined_longer instead prefix (part ∷ parts) last text e =
+    ap (λ l. prefix ++ l) e ∙ sym (append_assoc prefix part.plain (instead part.inside ++ joined instead parts last))
 
--- a front that keeps plain pieces plain
-front_kept : (scope : Scope) (front : List ℕ) → ((p : List ℕ) → HasNoVariable p → HasNoVariable (front ++ p)) →
+-- a prefix that keeps plain pieces plain
+prefix_kept : (scope : Scope) (prefix : List ℕ) → ((p : List ℕ) → HasNoVariable p → HasNoVariable (prefix ++ p)) →
     (text result : List ℕ) (parts : List Part) (last : List ℕ)
-    → IsExpansion scope text result (cutting_of parts last) → IsExpansion scope (front ++ text) (front ++ result) (longer front parts last)
-front_kept scope front keeps text result [] last is =
+    → IsExpansion scope text result (cutting_of parts last) → IsExpansion scope (prefix ++ text) (prefix ++ result) (longer prefix parts last)
+prefix_kept scope prefix keeps text result [] last is =
     record {
-      cut = record { whole = joined_longer written front [] last text is.cut.whole; parts = tt; last = keeps last is.cut.last };
-      values = joined_longer (replaced scope) front [] last result is.values;
+      cut = record { whole = joined_longer written prefix [] last text is.cut.whole; parts = tt; last = keeps last is.cut.last };
+      values = joined_longer (replaced scope) prefix [] last result is.values;
     }
-front_kept scope front keeps text result (part ∷ parts) last is =
+prefix_kept scope prefix keeps text result (part ∷ parts) last is =
     record {
       cut = record {
-        whole = joined_longer written front (part ∷ parts) last text is.cut.whole;
+        whole = joined_longer written prefix (part ∷ parts) last text is.cut.whole;
         parts = (record { plain = keeps part.plain is.cut.parts.0.plain; inside = is.cut.parts.0.inside }, is.cut.parts.1);
         last = is.cut.last;
       };
-      values = joined_longer (replaced scope) front (part ∷ parts) last result is.values;
+      values = joined_longer (replaced scope) prefix (part ∷ parts) last result is.values;
     }
 
 -- a piece and `}` that end no variable
-pub front_plain : (scope : Scope) (piece : List ℕ) → Lacks 125 piece → EndsOutside piece → IsFront scope (piece ++ (125 ∷ [])) (piece ++ (125 ∷ []))
-front_plain scope piece lacking shut text result (cutting, is) =
-    let front = piece ++ (125 ∷ []) in
-    (longer front cutting.parts cutting.last, front_kept scope front (λ p. no_variable_more piece p lacking shut) text result cutting.parts cutting.last is)
+pub prefix_plain : (scope : Scope) (piece : List ℕ) → Lacks 125 piece → EndsOutside piece → ExpandedPrefix scope (piece ++ (125 ∷ [])) (piece ++ (125 ∷ []))
+prefix_plain scope piece lacking shut text result (cutting, is) =
+    let prefix = piece ++ (125 ∷ []) in
+    (longer prefix cutting.parts cutting.last, prefix_kept scope prefix (λ p. no_variable_more piece p lacking shut) text result cutting.parts cutting.last is)
 
 -- a piece that ends inside of a variable, and the `}` behind it
-pub front_ended : (scope : Scope) (piece plain w : List ℕ) → Lacks 125 piece → EndsInside piece plain w →
-    IsFront scope (piece ++ (125 ∷ [])) (plain ++ replaced scope w)
-front_ended scope piece plain w lacking ends =
+pub prefix_ended : (scope : Scope) (piece plain w : List ℕ) → Lacks 125 piece → EndsInside piece plain w →
+    ExpandedPrefix scope (piece ++ (125 ∷ [])) (plain ++ replaced scope w)
+prefix_ended scope piece plain w lacking ends =
     let whole : Lacks 125 (plain ++ (123 ∷ w)) = rw (← ends.is) lacking in
     let same : plain ++ written w ≡ piece ++ (125 ∷ []) = sym (append_assoc plain (123 ∷ w) (125 ∷ [])) ∙ ap (λ l. l ++ (125 ∷ [])) (sym ends.is) in
-    let front = front_variable scope plain w (lacks_variable plain (lacks_front 125 plain (123 ∷ w) whole)) ends.inside in
-    subst (λ l. IsFront scope l (plain ++ replaced scope w)) same front
+    let prefix = prefix_variable scope plain w (lacks_variable plain (lacks_prefix 125 plain (123 ∷ w) whole)) ends.inside in
+    subst (λ l. ExpandedPrefix scope l (plain ++ replaced scope w)) same prefix
 
 -- ---- where a piece ends
 
@@ -140,7 +141,7 @@ ends_inside piece plain w lacking is last some =
     record { is = is; inside = record { some = some; no_brace = each_neither 123 125 w last shut } }
 
 pub ends_outside : (piece : List ℕ) → Lacks 123 piece → EndsOutside piece
-ends_outside piece h front w ends = h front w ends.is
+ends_outside piece h prefix w ends = h prefix w ends.is
 
 lacks_nothing : (c : ℕ) → Lacks c []
 lacks_nothing c [] y e = cc
@@ -148,17 +149,17 @@ lacks_nothing c (z ∷ x) y e = cc
 
 -- a piece that ends with `{`
 pub ends_empty : (piece plain w : List ℕ) → piece ≡ plain ++ (123 ∷ w) → w ≡ [] → EndsOutside piece
-ends_empty piece plain w is empty front v ends =
+ends_empty piece plain w is empty prefix v ends =
     let mine : piece ≡ plain ++ (123 ∷ []) = is ∙ ap (λ l. plain ++ (123 ∷ l)) empty in
-    ends.inside.some (sym (last_same 123 plain [] front v (lacks_nothing 123) (no_open v ends.inside) (sym mine ∙ ends.is)))
+    ends.inside.some (sym (last_same 123 plain [] prefix v (lacks_nothing 123) (no_open v ends.inside) (sym mine ∙ ends.is)))
 
 -- ---- the loop over pieces
 
 pub piece_step : (scope : Scope) (text rest piece after old added new : List ℕ) → ((r : List ℕ) → Expanded scope rest r → Expanded scope text (old ++ r))
-    → rest ≡ piece ++ (125 ∷ after) → new ≡ old ++ added → IsFront scope (piece ++ (125 ∷ [])) added → (r : List ℕ) → Expanded scope after r →
+    → rest ≡ piece ++ (125 ∷ after) → new ≡ old ++ added → ExpandedPrefix scope (piece ++ (125 ∷ [])) added → (r : List ℕ) → Expanded scope after r →
     Expanded scope text (new ++ r)
-piece_step scope text rest piece after old added new so_far is more front r h =
-    let all : Expanded scope rest (added ++ r) = subst (λ t. Expanded scope t (added ++ r)) (append_assoc piece (125 ∷ []) after ∙ sym is) (front after r h) in
+piece_step scope text rest piece after old added new so_far is more prefix r h =
+    let all : Expanded scope rest (added ++ r) = subst (λ t. Expanded scope t (added ++ r)) (append_assoc piece (125 ∷ []) after ∙ sym is) (prefix after r h) in
     subst (Expanded scope text) (sym (append_assoc old added r) ∙ ap (λ l. l ++ r) (sym more)) (so_far (added ++ r) all)
 
 pub piece_last : (scope : Scope) (text rest old new : List ℕ) → ((r : List ℕ) → Expanded scope rest r → Expanded scope text (old ++ r)) → Lacks 125 rest →

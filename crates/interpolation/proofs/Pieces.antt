@@ -19,8 +19,8 @@ at_length (z ∷ x) y c = at_length x y c
 pub lacks : (c : ℕ) (xs : List ℕ) → ((i : ℕ) → i < length xs → get_or xs i 0 ≡ c → ⊥) → Lacks c xs
 lacks c xs h x y e = h (length x) (omega (arith, ap length e, length-append x (c ∷ y))) (ap (λ l. get_or l (length x) 0) e ∙ at_length x y c)
 
-pub lacks_front : (c : ℕ) (x y : List ℕ) → Lacks c (x ++ y) → Lacks c x
-lacks_front c x y h a b e = h a (b ++ y) (ap (λ l. l ++ y) e ∙ append_assoc a (c ∷ b) y)
+pub lacks_prefix : (c : ℕ) (x y : List ℕ) → Lacks c (x ++ y) → Lacks c x
+lacks_prefix c x y h a b e = h a (b ++ y) (ap (λ l. l ++ y) e ∙ append_assoc a (c ∷ b) y)
 
 pub lacks_back : (c : ℕ) (x y : List ℕ) → Lacks c (x ++ y) → Lacks c y
 lacks_back c x y h a b e = h (x ++ a) b (ap (λ l. x ++ l) e ∙ sym (append_assoc x a (c ∷ b)))
@@ -40,7 +40,7 @@ each_neither b c (x ∷ xs) hb hc =
     All-cons (λ (x : ℕ). (x ≢ b) × (x ≢ c)) x xs ((λ e. hb [] xs (ap (λ z. z ∷ xs) e)), (λ e. hc [] xs (ap (λ z. z ∷ xs) e)))
     (each_neither b c xs (lacks_back b (x ∷ []) xs hb) (lacks_back c (x ∷ []) xs hc))
 
--- of two fronts of one list one is a front of the other
+-- of two prefixes of one list one is a prefix of the other
 pub overlap : (a b x y : List ℕ) → a ++ b ≡ x ++ y → ((d : List ℕ) × (x ≡ a ++ d) × (b ≡ d ++ y)) ⊎ ((d : List ℕ) × (a ≡ x ++ d) × (y ≡ d ++ b))
 overlap [] b x y e = inl (x, refl, e)
 overlap (c ∷ a) b [] y e = inr (c ∷ a, refl, sym e)
@@ -119,9 +119,9 @@ pub last_cut : (c : ℕ) (text : List ℕ) (r : Option (Bor (List ℕ) × Bor (L
     → MatchOption r (Lacks c text) (λ x. (text ≡ x.0.now ++ (c ∷ x.1.now)) × Lacks c x.1.now)
 last_cut c text None h low = lacks c text (λ i. NoCharPasses-char c text i h low)
 last_cut c text (Some x) h low =
-    let front = h.0 in
+    let prefix = h.0 in
     let back = h.1 in
     let behind : Lacks c (drop back text) = lacks c (drop back text) (λ i. NoCharPasses-char c (drop back text) i h.2.0 low) in (
-      sym (take-append-drop front text) ∙ ap₂ (λ a b. a ++ b) (sym h.3) (drop_at_char c text front back h.2.1 low ∙ ap (λ l. c ∷ l) (sym h.4)),
+      sym (take-append-drop prefix text) ∙ ap₂ (λ a b. a ++ b) (sym h.3) (drop_at_char c text prefix back h.2.1 low ∙ ap (λ l. c ∷ l) (sym h.4)),
       subst (Lacks c) (sym h.4) behind,
     )

@@ -9,12 +9,12 @@ use Rattle.interpolation.specs.declared.scope.Place.{Place}
 use Rattle.interpolation.specs.Lookups.{IsLong}
 use Rattle.interpolation.specs.Values.{behind, short, of_component}
 
-pub behind_other : (front w : List ℕ) → ((rest : List ℕ) → w ≢ front ++ rest) → behind front w ≡ None
+pub behind_other : (prefix w : List ℕ) → ((rest : List ℕ) → w ≢ prefix ++ rest) → behind prefix w ≡ None
 behind_other [] w h = absurd (h w refl)
-behind_other (c ∷ front) [] h = refl
-behind_other (c ∷ front) (x ∷ w) h =
-    cond_both (nat_eq x c) (behind front w) None (λ r. r ≡ None)
-    (λ e. behind_other front w (λ rest is. h rest (ap (λ l. x ∷ l) is ∙ ap (λ y. y ∷ (front ++ rest)) (eqb-true x c e))))
+behind_other (c ∷ prefix) [] h = refl
+behind_other (c ∷ prefix) (x ∷ w) h =
+    cond_both (nat_eq x c) (behind prefix w) None (λ r. r ≡ None)
+    (λ e. behind_other prefix w (λ rest is. h rest (ap (λ l. x ∷ l) is ∙ ap (λ y. y ∷ (prefix ++ rest)) (eqb-true x c e))))
     (λ e. refl)
 
 -- a long value is no short one

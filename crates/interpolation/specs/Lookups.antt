@@ -13,5 +13,5 @@ abbrev pub IsFaultOf : Option (List ℕ) → ValueFault → Type 0
 IsFaultOf value TooLong = IsLong value
 IsFaultOf value NoMemory = Unit {0}
 
-abbrev pub Finds : Option (List ℕ) → Result (Option (List ℕ)) ValueFault → Type 0
-Finds value result = MatchResult result (λ found. found ≡ value) (IsFaultOf value)
+abbrev pub LookupOutcome : Option (List ℕ) → Result (Option (List ℕ)) ValueFault → Type 0
+LookupOutcome value result = MatchResult result (λ found. found ≡ value) (IsFaultOf value)

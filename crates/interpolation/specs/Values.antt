@@ -38,7 +38,7 @@ folder_of_version root below place = root ++ (below ++ (place.name ++ (codes "/"
 abbrev pub folder_of_work : List ℕ → List ℕ → List ℕ
 folder_of_work root name = root ++ (codes "/work/" ++ name)
 
--- what stands behind a front
+-- what stands behind a prefix
 abbrev pub behind : List ℕ → List ℕ → Option (List ℕ)
 behind [] w = Some w
 behind (c ∷ cs) [] = None

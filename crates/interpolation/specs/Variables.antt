@@ -11,7 +11,7 @@ pub record IsInside (w : List ℕ) : Type 0 where
 
 -- no part of the text is a variable
 abbrev pub HasNoVariable : List ℕ → Type 0
-HasNoVariable text = (front w back : List ℕ) → IsInside w → text ≢ front ++ (written w ++ back)
+HasNoVariable text = (prefix w back : List ℕ) → IsInside w → text ≢ prefix ++ (written w ++ back)
 
 -- the piece ends inside of a variable, which a `}` behind it closes
 pub record EndsInside (piece plain w : List ℕ) : Type 0 where
@@ -51,6 +51,6 @@ pub record IsExpansion (scope : Scope) (text result : List ℕ) (cutting : Cutti
 abbrev pub Expanded : Scope → List ℕ → List ℕ → Type 0
 Expanded scope text result = (cutting : Cutting) × IsExpansion scope text result cutting
 
--- what a front of texts becomes, whatever follows
-abbrev pub IsFront : Scope → List ℕ → List ℕ → Type 0
-IsFront scope front added = (text result : List ℕ) → Expanded scope text result → Expanded scope (front ++ text) (added ++ result)
+-- what a prefix of texts becomes, whatever follows
+abbrev pub ExpandedPrefix : Scope → List ℕ → List ℕ → Type 0
+ExpandedPrefix scope prefix added = (text result : List ℕ) → Expanded scope text result → Expanded scope (prefix ++ text) (added ++ result)

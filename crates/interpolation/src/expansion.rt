@@ -1,6 +1,6 @@
 ghost use Rattle.std.specs.Prelude.{◌≡◌, ◌≢◌, ◌++◌, ◌∷◌, [], ℕ, List, IfOk, OnOk, MatchOption};
 ghost use Rattle.interpolation.specs.Values.{replaced};
-ghost use Rattle.interpolation.specs.Variables.{Expanded, IsFront, EndsInside};
+ghost use Rattle.interpolation.specs.Variables.{Expanded, ExpandedPrefix, EndsInside};
 ghost use Rattle.interpolation.specs.Scopes.{HasRegularConfigs};
 
 use crate::scope::Scope;
@@ -43,7 +43,7 @@ fn push_piece(
     requires scope { HasRegularConfigs scope.now }
     requires piece { (x y : List ℕ) → piece.now ≢ x ++ (125 ∷ y) }
     ensures { OnOk result ((added : List ℕ) × (expanded.new ≡ expanded.old ++ added)
-        × IsFront scope.now (piece.now ++ (125 ∷ [])) added) }
+        × ExpandedPrefix scope.now (piece.now ++ (125 ∷ [])) added) }
 {
     match open_variable(piece) {
         Some((plain, word)) => {
@@ -60,7 +60,7 @@ fn push_piece(
 /// Where a `}` behind the piece ends a variable: the text before the variable, and what stands inside.
 fn open_variable(piece: &str) -> Option<(&str, &str)>
     requires { (x y : List ℕ) → piece.now ≢ x ++ (125 ∷ y) }
-    ensures { MatchOption result ((front w : List ℕ) → ¬ EndsInside piece.now front w)
+    ensures { MatchOption result ((prefix w : List ℕ) → ¬ EndsInside piece.now prefix w)
         (λ x. EndsInside piece.now x.0.now x.1.now) }
 {
     let Some((plain, word)) = piece.rsplit_once('{') else {

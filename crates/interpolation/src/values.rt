@@ -2,7 +2,7 @@ ghost use Rattle.std.specs.Prelude.{◌≡◌, IfOk, IfErr, Some, option_map};
 ghost use Rattle.tree_core.specs.Regular.{IsRegular};
 ghost use Rattle.tree_core.specs.View.{view};
 ghost use Rattle.interpolation.specs.Values.{shown, configured, folder_of_version, folder_of_work, of_component, of_dependency, value, short};
-ghost use Rattle.interpolation.specs.Lookups.{Finds, IsFaultOf};
+ghost use Rattle.interpolation.specs.Lookups.{LookupOutcome, IsFaultOf};
 ghost use Rattle.interpolation.specs.Scopes.{HasRegularConfigs, first_named};
 
 use crate::fault::ValueFault;
@@ -41,7 +41,7 @@ pub(crate) fn short_value(
 /// What the variable `{word}` stands for.
 fn value_of(alloc: Global, word: &str, scope: &Scope) -> Result<Option<Text>, ValueFault>
     requires { HasRegularConfigs scope.now }
-    ensures { Finds (value scope.now word.now) result }
+    ensures { LookupOutcome (value scope.now word.now) result }
 {
     if let Some(text) = component_value(alloc, word, &scope.root, &scope.own)? {
         return Ok(Some(text));
@@ -58,7 +58,7 @@ fn value_of(alloc: Global, word: &str, scope: &Scope) -> Result<Option<Text>, Va
 /// The value of a variable that begins with the name of a dependency and `:`.
 fn dependency_value(alloc: Global, word: &str, scope: &Scope) -> Result<Option<Text>, ValueFault>
     requires { HasRegularConfigs scope.now }
-    ensures { Finds (of_dependency scope.now word.now) result }
+    ensures { LookupOutcome (of_dependency scope.now word.now) result }
 {
     let Some((name, rest)) = word.split_once(':') else {
         return Ok(None);
@@ -88,7 +88,7 @@ fn component_value(
     place: &Place,
 ) -> Result<Option<Text>, ValueFault>
     requires { IsRegular (view place.now.config) }
-    ensures { Finds (of_component root.now place.now word.now) result }
+    ensures { LookupOutcome (of_component root.now place.now word.now) result }
 {
     if let Some(at) = word.strip_prefix("configuration:") {
         return config_value(alloc, at, &place.config);
@@ -129,7 +129,7 @@ pub fn work_folder(alloc: Global, root: &Text, name: &Name) -> Result<Text, NoMe
 /// The node that the text names as a JSON pointer: a text as it is, any other node as compact JSON.
 fn config_value(alloc: Global, at: &str, config: &Tree) -> Result<Option<Text>, ValueFault>
     requires { IsRegular (view config.now) }
-    ensures { Finds (configured at.now config.now) result }
+    ensures { LookupOutcome (configured at.now config.now) result }
 {
     let pointer = match Pointer::read(alloc, at) {
         Ok(pointer) => pointer,

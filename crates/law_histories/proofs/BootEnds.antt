@@ -23,9 +23,9 @@ use Rattle.histories.specs.TraceEvents.{TraceEvent, Booted, KilledOnAbort, Recor
 use Rattle.histories.specs.States.{SessionState, booted, cut_boot, cut_off, ends_boot, kept, state_after, noted}
 use Rattle.histories.specs.Follows.{IsBootChild, IsClear, IsProper, MayBooted, MayKeep}
 use Rattle.histories.proofs.Joined.{records-append}
-use Rattle.law_histories.specs.Stood.{Stood}
+use Rattle.law_histories.specs.Stood.{HasHappened}
 use Rattle.law_histories.specs.Ends.{IsBootEnd, BootsEnded}
-use Rattle.law_histories.proofs.Duties.{duty_by, turn_is}
+use Rattle.law_histories.proofs.Duties.{duty_by, next_is}
 use Rattle.law_histories.proofs.Histories.{Runs, history_at, run_before, run_is, run_less}
 use Rattle.law_histories.proofs.Facts.{no_some, some_same}
 
@@ -36,7 +36,7 @@ record HasEnded (p : SessionState) (h : List TraceEvent) (e : Exit) : Type 0 whe
   entry : RunnerEntry
   made : Prepared
   before : List TraceEvent
-  stood : Stood h (Booted entry made) before
+  stood : HasHappened h (Booted entry made) before
   is : IsBootEnd (state_after p before) entry.seen e
   since : records_of stood.later ≡ []
 
@@ -190,7 +190,7 @@ known_at p (e ∷ h) start proper run =
 -- ---- the record
 
 -- the device is the same where no record was kept since
-same_device : (p : SessionState) (h : List TraceEvent) (e : TraceEvent) (before : List TraceEvent) (s : Stood h e before) → Runs p h →
+same_device : (p : SessionState) (h : List TraceEvent) (e : TraceEvent) (before : List TraceEvent) (s : HasHappened h e before) → Runs p h →
     records_of s.later ≡ [] → ((l : List TraceEvent) → records_of (e ∷ l) ≡ records_of l) → (state_after p h).device ≡ (state_after p before).device
 same_device p h e before s run none quiet =
     let records : records_of h ≡ records_of before
@@ -204,7 +204,7 @@ boots_ended p h before name e is stood =
     let end = here.proper.0.0.1 in
     let b = run_before p (stored.BootEnded name e) before here.run in
     let d = ((known_at p before here.start here.proper.1 b.0).ended e end).0 in
-    let turn = turn_is (state_after p before).device name (state_after p before).device.pending b.1 in
+    let is_next = next_is (state_after p before).device name (state_after p before).device.pending b.1 in
     let same = same_device p before (Booted d.entry d.made) d.before d.stood b.0 d.since (λ l. refl) in (
       end,
       record {
@@ -213,7 +213,7 @@ boots_ended p h before name e is stood =
         before = d.before;
         stood = d.stood;
         is = d.is;
-        turn = subst (λ (x : Device). (duty_of x).turn ≡ Some name) same turn;
+        next = subst (λ (x : Device). (duty_of x).next_bootstrap ≡ Some name) same is_next;
         since = d.since;
       },
     )

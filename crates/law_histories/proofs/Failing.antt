@@ -11,7 +11,7 @@ use Rattle.components.specs.Turns.{owes}
 use Rattle.components.specs.Components.{ComponentState, At, component_name}
 use Rattle.histories.specs.TraceEvents.{TraceEvent, Ran, Booted, Recorded, records_of}
 use Rattle.histories.specs.States.{SessionState, state_after}
-use Rattle.law_histories.specs.Stood.{IsHistory, Stood}
+use Rattle.law_histories.specs.Stood.{IsHistory, HasHappened}
 use Rattle.law_histories.specs.Ends.{NoneFails, NoneRecorded, is_failure}
 use Rattle.law_histories.proofs.BootEnds.{boots_ended}
 use Rattle.law_histories.proofs.Standing.{records_stand}
@@ -36,7 +36,7 @@ found {A} test (x ∷ xs) any = by (test x) refl any (λ any. found test xs any)
         record { earlier = x ∷ l.earlier; item = l.item; after = l.after; split = ap (λ (ys : List A). x ∷ ys) l.split; is = l.is }
 
 -- what stands in a part stands in the whole
-deeper : (h : List TraceEvent) (e x : TraceEvent) (before first : List TraceEvent) → Stood h e before → Stood before x first → Stood h x first
+deeper : (h : List TraceEvent) (e x : TraceEvent) (before first : List TraceEvent) → HasHappened h e before → HasHappened before x first → HasHappened h x first
 deeper h e x before first s t = record {
   later = s.later ++ e ∷ t.later;
   split = s.split ∙ (ap (λ (l : List TraceEvent). s.later ++ e ∷ l) t.split ∙ sym (append_assoc s.later (e ∷ t.later) (x ∷ first)));
@@ -61,7 +61,7 @@ not_both true off on = false≢true off
 not_both false off on = false≢true on
 
 module _ (p : SessionState) (h : List TraceEvent) (is : IsHistory p h) (none : NoneFails p h) where
-  not_failed : (r : Record) (before : List TraceEvent) → Stood h (Recorded r) before → is_failure r ≡ true → ⊥
+  not_failed : (r : Record) (before : List TraceEvent) → HasHappened h (Recorded r) before → is_failure r ≡ true → ⊥
   not_failed (StepFailed n s e) before stood fails =
       let end = (failures_ended p h before n s e is stood).1 in
       owes_one (state_after p (Ran end.entry end.who s ∷ end.before)).world.parts end.who n (s, e) end.fails

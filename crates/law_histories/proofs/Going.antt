@@ -116,8 +116,8 @@ record Up (d : Device) (old : Pending) (records : List Record) (e : Device) : Ty
   ended : EndsByEnd records → IsOneOn old new
 
 up_boots : (q : Pending) → ComesUp q → (n : List ℕ) → next_boot q ≡ Some n → (q.stage ≡ stages.Booting) × (q.ended < length q.plan.boots)
-up_boots q (inl b) n turn = (b.0, slice_get_within q.plan.boots q.ended n (subst (λ (s : Stage). next_boot (at s q) ≡ Some n) b.0 turn))
-up_boots q (inr a) n turn = absurd (none_at q.ended n (subst (λ (s : Stage). next_boot (at s q) ≡ Some n) a.0 turn))
+up_boots q (inl b) n is_next = (b.0, slice_get_within q.plan.boots q.ended n (subst (λ (s : Stage). next_boot (at s q) ≡ Some n) b.0 is_next))
+up_boots q (inr a) n is_next = absurd (none_at q.ended n (subst (λ (s : Stage). next_boot (at s q) ≡ Some n) a.0 is_next))
 
 up_fails_not : (q : Pending) → ComesUp q → (n : List ℕ) → failing_name q ≡ Some n → ⊥
 up_fails_not q (inl b) n fails =
@@ -300,8 +300,8 @@ record Back (d : Device) (old : Pending) (records : List Record) (e : Device) : 
   ended : EndsByEnd records → IsOneBack old new
 
 back_boots : (q : Pending) → GoesBack q → (n : List ℕ) → next_boot q ≡ Some n → (q.stage ≡ stages.Backing) × (q.ended < length q.backs)
-back_boots q (inl b) n turn = (b.0, slice_get_within q.backs q.ended n (subst (λ (s : Stage). next_boot (at s q) ≡ Some n) b.0 turn))
-back_boots q (inr a) n turn = absurd (none_at q.ended n (subst (λ (s : Stage). next_boot (at s q) ≡ Some n) a.0 turn))
+back_boots q (inl b) n is_next = (b.0, slice_get_within q.backs q.ended n (subst (λ (s : Stage). next_boot (at s q) ≡ Some n) b.0 is_next))
+back_boots q (inr a) n is_next = absurd (none_at q.ended n (subst (λ (s : Stage). next_boot (at s q) ≡ Some n) a.0 is_next))
 
 back_fails_not : (q : Pending) → GoesBack q → (n : List ℕ) → failing_name q ≡ Some n → ⊥
 back_fails_not q (inl b) n fails = let no : None ≡ Some n = subst (λ (s : Stage). failing_name (at s q) ≡ Some n) b.0 fails in absurd cc

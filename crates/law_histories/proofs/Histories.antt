@@ -10,7 +10,7 @@ use Rattle.components.specs.declared.kinds.Prepared.{Prepared}
 use Rattle.histories.specs.TraceEvents.{TraceEvent, Booted, KilledOnAbort, Recorded, records_of}
 use Rattle.histories.specs.States.{SessionState, leaves, state_after, booted, cut_off}
 use Rattle.histories.specs.Follows.{IsProper, MayKeep}
-use Rattle.law_histories.specs.Stood.{IsHistory, Stood}
+use Rattle.law_histories.specs.Stood.{IsHistory, HasHappened}
 
 -- ---- what is no record
 
@@ -87,7 +87,7 @@ history_from p [] e before is = is
 history_from p (x ∷ later) e before is = history_from p later e before (whole_less p x (later ++ e ∷ before) is)
 
 -- what stands in a history stands at the end of one
-pub history_at : (p : SessionState) (h : List TraceEvent) (e : TraceEvent) (before : List TraceEvent) → IsHistory p h → Stood h e before →
+pub history_at : (p : SessionState) (h : List TraceEvent) (e : TraceEvent) (before : List TraceEvent) → IsHistory p h → HasHappened h e before →
     IsHistory p (e ∷ before)
 history_at p h e before is s = history_from p s.later e before (subst (λ (l : List TraceEvent). IsHistory p l) s.split is)
 

@@ -10,9 +10,9 @@ use Rattle.histories.specs.Phases.{duty_of}
 use Rattle.histories.specs.TraceEvents.{TraceEvent, Ran, Booted, Recorded, records_of}
 use Rattle.histories.specs.States.{SessionState, state_after}
 use Rattle.histories.specs.Follows.{MayBoot, MayBooted, MayRun}
-use Rattle.law_histories.specs.Stood.{IsHistory, Stood, RecordsStand}
-use Rattle.law_histories.specs.Starts.{AllBootsTold, AllStartsTold}
-use Rattle.law_histories.specs.Turned.{AllTurnsPlain}
+use Rattle.law_histories.specs.Stood.{IsHistory, HasHappened, RecordsStand}
+use Rattle.law_histories.specs.Starts.{AllBootsOweNone, AllStartsOweNone}
+use Rattle.law_histories.specs.Turned.{AllRollbacksPlain}
 use Rattle.law_histories.proofs.Growing.{cut_last, not_empty}
 use Rattle.law_histories.proofs.Histories.{history_at, silent}
 
@@ -21,11 +21,12 @@ use Rattle.law_histories.proofs.Histories.{history_at, silent}
 -- it stands in the history between these records
 pub record Placed (h : List TraceEvent) (r : Record) (earlier after : List Record) : Type 0 where
   pub before : List TraceEvent
-  pub stood : Stood h (Recorded r) before
+  pub stood : HasHappened h (Recorded r) before
   pub first : records_of before ≡ earlier
   pub rest : records_of stood.later ≡ after
 
-abbrev on : (e : TraceEvent) (h : List TraceEvent) (r : Record) (before : List TraceEvent) → Stood h (Recorded r) before → Stood (e ∷ h) (Recorded r) before
+abbrev on : (e : TraceEvent) (h : List TraceEvent) (r : Record) (before : List TraceEvent) → HasHappened h (Recorded r) before
+    → HasHappened (e ∷ h) (Recorded r) before
 on e h r before s = record { later = e ∷ s.later; split = ap (λ (l : List TraceEvent). e ∷ l) s.split }
 
 placed_last : (h : List TraceEvent) (y r : Record) (earlier after : List Record) → (after ≡ []) × (y ≡ r) × (records_of h ≡ earlier) →
@@ -62,22 +63,22 @@ records_stand h earlier after r is = let p = placed h earlier after r is in (p.b
 
 -- ---- starts
 
-pub starts_told : AllStartsTold
+pub starts_told : AllStartsOweNone
 starts_told p h before e k s n c is stood started =
     let may = (history_at p h (Ran e k s) before is stood).proper.0.0.0 in
-    (subst (λ (x : Seen). MayRun (duty_of (state_after p before).device) (state_after p before) x k s) started may).0.told
+    (subst (λ (x : Seen). MayRun (duty_of (state_after p before).device) (state_after p before) x k s) started may).0.owes_none
 
 pub may_boot : (p : SessionState) (h before : List TraceEvent) (e : RunnerEntry) (m : Prepared) (n : ℕ) (c : Command) → IsHistory p h →
-    Stood h (Booted e m) before → e.seen ≡ seen.Started n c
+    HasHappened h (Booted e m) before → e.seen ≡ seen.Started n c
     → MayBoot (duty_of (state_after p before).device) (state_after p before) m
 may_boot p h before e m n c is stood started =
     let may = (history_at p h (Booted e m) before is stood).proper.0.0.0 in
     (subst (λ (x : Seen). MayBooted (duty_of (state_after p before).device) (state_after p before) x m) started may).0
 
-pub boots_told : AllBootsTold
-boots_told p h before e m n c is stood started = let may = may_boot p h before e m n c is stood started in (may.told, may.no_end)
+pub boots_told : AllBootsOweNone
+boots_told p h before e m n c is stood started = let may = may_boot p h before e m n c is stood started in (may.owes_none, may.no_end)
 
 -- ---- the way back without bootstraps
 
-pub turns_plain : AllTurnsPlain
-turns_plain p h before name is stood = (history_at p h (Recorded (Failing name)) before is stood).proper.0.0.1
+pub rollbacks_plain : AllRollbacksPlain
+rollbacks_plain p h before name is stood = (history_at p h (Recorded (Failing name)) before is stood).proper.0.0.1

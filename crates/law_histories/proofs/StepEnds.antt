@@ -15,7 +15,7 @@ use Rattle.lifecycle.specs.declared.kinds.LifeEvent.TheVariants as event
 use Rattle.step_runner.specs.declared.entries.RunnerEntry.{RunnerEntry}
 use Rattle.step_runner.specs.declared.entries.Seen.{Seen}
 use Rattle.step_runner.specs.declared.entries.Seen.TheVariants as seen
-use Rattle.components.specs.Events.{answered_at, gone_by, is_late_child, is_orphan_at, kill_event, kill_event_at, told_at, with_child}
+use Rattle.components.specs.Events.{answered_at, gone_by, is_late_child, is_orphan_at, kill_event, kill_event_at, heard_at, with_child}
 use Rattle.components.specs.Lives.{lived_at}
 use Rattle.components.specs.Turns.{owes}
 use Rattle.components.specs.Components.{Components, ComponentState, At, changed_at, child_gone, owner, component_name, place_of, without_child}
@@ -106,39 +106,39 @@ ran_debt d q (seen.Started n c) k t j name f may is = by t is
   where
     by : (t : Step) → Owes (ran (seen.Started n c) k t q.world).parts j name f → Ends q (seen.Started n c) k t j name f
     by step.Run is =
-        let still = told_still q.world (λ p. with_child n step.Run q.world.moment (record p { handed = false })) (λ p. refl) may.0.told k in
+        let still = told_still q.world (λ p. with_child n step.Run q.world.moment (record p { handed = false })) (λ p. refl) may.0.owes_none k in
         let w : Components = record q.world { parts = changed_at k (λ p. with_child n step.Run q.world.moment (record p { handed = false })) q.world.parts } in
         absurd (not_launched f.0 f.1 (lived_at_debt k event.Launched w j name f still is).1)
     by u is = absurd (none_owed (changed_at k (λ p. with_child n u q.world.moment (record p { handed = false })) q.world.parts) j name f
-        (told_still q.world (λ p. with_child n u q.world.moment (record p { handed = false })) (λ p. refl) may.0.told k) is)
+        (told_still q.world (λ p. with_child n u q.world.moment (record p { handed = false })) (λ p. refl) may.0.owes_none k) is)
 ran_debt d q (seen.Refused c) k t j name f may is =
     let w = q.world in
     let v = lived_at_debt k (event.Ended t exits.NotStarted) (answered_at k w) j name f
-    (told_still w (λ p. record p { handed = false }) (λ p. refl) may.0.told k) is in
+    (told_still w (λ p. record p { handed = false }) (λ p. refl) may.0.owes_none k) is in
     let same = ended_same t f.0 exits.NotStarted f.1 v.1 in
     (v.0, sym same.1, same.0)
 ran_debt d q (seen.Killed n) k t j name f may is =
     let w = q.world in
     let owed : Owes (gone_by (kill_event_at k t n w) k t n w).parts j name f
     = subst (λ (o : Option (ℕ × Step)). Owes (killed_by n w o).parts j name f) may.1.0 is in
-    let v = gone_debt (kill_event_at k t n w) k t n w j name f may.0.told owed in
+    let v = gone_debt (kill_event_at k t n w) k t n w j name f may.0.owes_none owed in
     let late = late_kill k t n w f v.1 in
     (v.0, (may.1.0, late.0, late.2), late.1)
 ran_debt d q (seen.Ended n x limit) k t j name f may is =
     let w = q.world in
     let owed : Owes (gone_by (Some (event.Ended t x)) k t n w).parts j name f
     = subst (λ (o : Option (ℕ × Step)). Owes (ended_by n x w o).parts j name f) may.1 is in
-    let v = gone_debt (Some (event.Ended t x)) k t n w j name f may.0.quiet.told owed in
+    let v = gone_debt (Some (event.Ended t x)) k t n w j name f may.0.quiet.owes_none owed in
     let same = ended_same t f.0 x f.1 (some_same (event.Ended t x) (event.Ended f.0 f.1) v.1) in
     (v.0, (may.1, same.1), same.0)
 ran_debt d q (seen.Exists x true) k t j name f may is =
     absurd (not_skipped f.0 f.1 (lived_at_debt k event.Skipped (answered_at k q.world) j name f
-    (told_still q.world (λ p. record p { handed = false }) (λ p. refl) may.0.told k) is).1)
+    (told_still q.world (λ p. record p { handed = false }) (λ p. refl) may.0.owes_none k) is).1)
 ran_debt d q (seen.OnPath x true) k t j name f may is =
     absurd (not_skipped f.0 f.1 (lived_at_debt k event.Skipped (answered_at k q.world) j name f
-    (told_still q.world (λ p. record p { handed = false }) (λ p. refl) may.0.told k) is).1)
-ran_debt d q (seen.Exists x false) k t j name f may is = absurd (none_owed q.world.parts j name f may.0.told is)
-ran_debt d q (seen.OnPath x false) k t j name f may is = absurd (none_owed q.world.parts j name f may.0.told is)
+    (told_still q.world (λ p. record p { handed = false }) (λ p. refl) may.0.owes_none k) is).1)
+ran_debt d q (seen.Exists x false) k t j name f may is = absurd (none_owed q.world.parts j name f may.0.owes_none is)
+ran_debt d q (seen.OnPath x false) k t j name f may is = absurd (none_owed q.world.parts j name f may.0.owes_none is)
 ran_debt d q (seen.Elapsed limit) k t j name f may is = absurd may
 
 -- ---- what is known along a history
@@ -223,7 +223,7 @@ cut_debts (seen.Killed n) q = by (owner n q.world.parts)
 cut_debts s q = refl
 
 abbrev told_by : Components → Option ℕ → Components
-told_by w o = elim o [ None ↦ w | Some k ↦ told_at k w ]
+told_by w o = elim o [ None ↦ w | Some k ↦ heard_at k w ]
 
 -- a failure that is recorded was the only one
 told_alone : (p : SessionState) (h : List TraceEvent) (n : List ℕ) (s : Step) (e : Exit) → OwesBy (state_after p h).world n s e → Known p h →
@@ -259,10 +259,10 @@ known_at p (Recorded (stored.Closed o) ∷ h) start proper =
     (each_same debt forgetting forgetting_debt (state_after p h).world.parts)) (known_at p h start proper.1)
 known_at p (Recorded r ∷ h) start proper = less p h (Recorded r) (λ later none. none_more is_step_failure (records_of later) r none refl) (λ k name f is. is)
     (known_at p h start proper.1)
-known_at p (Moved k e ∷ h) start proper = nothing p h (Moved k e) (move_owes (state_after p h).world k e proper.0.0.0 proper.0.0.1.told)
+known_at p (Moved k e ∷ h) start proper = nothing p h (Moved k e) (move_owes (state_after p h).world k e proper.0.0.0 proper.0.0.1.owes_none)
 known_at p (Heard k ∷ h) start proper = less p h (Heard k) (λ later none. none) (told_no_more k (state_after p h).world.parts) (known_at p h start proper.1)
 known_at p (Changed items counts steady ∷ h) start proper = nothing p h (Changed items counts steady)
-    (changed_told items counts steady (state_after p h).world proper.0.0.told)
+    (changed_told items counts steady (state_after p h).world proper.0.0.owes_none)
 known_at p (StopsAll ∷ h) start proper =
     less p h StopsAll (λ later none. none) (same_debts (state_after p h).world.parts (state_after p (StopsAll ∷ h)).world.parts
     (each_same debt leaving leaving_debt (state_after p h).world.parts)) (known_at p h start proper.1)

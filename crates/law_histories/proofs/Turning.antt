@@ -18,13 +18,14 @@ use Rattle.device.specs.declared.staged.Stage.{Stage}
 use Rattle.device.specs.Devices.{Device, Pending}
 use Rattle.device.specs.Lawful.{Allowed, MayActivate, MayBegin, MayBreak, MayClose, MayCount, MayEnd, MayAccept, MayFail, MayGoBack, Lawful, Run, activated}
 use Rattle.device.specs.Lawful.{applied, begun, boot_ended, broken, close_pending, count_failure, counted, failing_name, failing_place, goes_on}
-use Rattle.device.specs.Lawful.{has_gone_back, moved_on, next_boot, one_ended, place, rolled, turned_back}
+use Rattle.device.specs.Lawful.{has_gone_back, moved_on, next_boot, one_ended, place, rolled, sent_back}
 use Rattle.device.proofs.SoundStages.{at}
 use Rattle.histories.specs.TraceEvents.{TraceEvent, Recorded, records_of}
 use Rattle.histories.specs.States.{SessionState, state_after, takes_document}
 use Rattle.histories.specs.Follows.{IsProper}
 use Rattle.law_histories.specs.Ends.{is_step_failure}
-use Rattle.law_histories.specs.Turned.{WasTaken, IsFailedLast, is_at, fails_at, failures_at, FailedSoOften, HasCause, TurnsBack, is_way_back, IsTurned}
+use Rattle.law_histories.specs.Turned.{WasTaken, IsFailedLast}
+use Rattle.law_histories.specs.Turned.{is_at, fails_at, failures_at, FailedSoOften, HasCause, HasBegunRollback, is_way_back, HasRolledBack}
 use Rattle.law_histories.specs.Turned.{IsCaused, ClosesCaused, RunsCloseCaused}
 use Rattle.law_histories.proofs.Growing.{all_more, more, none_more}
 use Rattle.law_histories.proofs.Histories.{Runs, Steps, along, history_at, run_before}
@@ -35,8 +36,8 @@ use Rattle.law_histories.proofs.Facts.{clash, no_some, none_at, some_same}
 abbrev KnownIn : Device → List Record → Pending → Stage → Type 0
 KnownIn d records q stages.Booting = q.boot_failed ≡ true → (name : List ℕ) → next_boot q ≡ Some name → IsFailedLast d records q name
 KnownIn d records q stages.Activating = (k : ℕ) → FailedSoOften d records q k (get_or q.failures k 0)
-KnownIn d records q stages.Backing = IsTurned d records q.plan
-KnownIn d records q stages.Rolling = IsTurned d records q.plan
+KnownIn d records q stages.Backing = HasRolledBack d records q.plan
+KnownIn d records q stages.Rolling = HasRolledBack d records q.plan
 
 abbrev Known : Device → List Record → Option Pending → Type 0
 Known d records None = ⊤
@@ -89,14 +90,14 @@ module _ (d : Device) (records : List Record) where
   taken_more plan r not (inl t) = inl (t.0, t.1 ++ r ∷ [], more t.0 (Accepted plan ∷ t.1) r records t.2, none_more takes_document t.1 r t.3 not)
   taken_more plan r not (inr t) = inr (t.0, none_more takes_document records r t.1 not)
 
-  back_more : (plan : Plan) (r : Record) → takes_document r ≡ false → IsTurned d records plan → IsTurned d (records ++ r ∷ []) plan
+  back_more : (plan : Plan) (r : Record) → takes_document r ≡ false → HasRolledBack d records plan → HasRolledBack d (records ++ r ∷ []) plan
   back_more plan r not (inl t) = inl (record {
     name = t.name;
-    turn = t.turn;
+    failing = t.failing;
     is = t.is;
     earlier = t.earlier;
     after = t.after ++ r ∷ [];
-    split = more t.earlier (t.turn ∷ t.after) r records t.split;
+    split = more t.earlier (t.failing ∷ t.after) r records t.split;
     since = none_more takes_document t.after r t.since not;
     taken = t.taken;
     device = t.device;
@@ -118,7 +119,7 @@ module _ (d : Device) (records : List Record) where
   -- a bootstrap begins
   begun_in : (s : Stage) (q : Pending) (n : List ℕ) → MayBegin n (at s q) → KnownIn d records (at s q) s →
       KnownIn d (records ++ BootBegun n ∷ []) (begun (at s q)) s
-  begun_in stages.Booting q n may known = λ failed name turn. absurd (clash q.boot_failed failed may.0)
+  begun_in stages.Booting q n may known = λ failed name is_next. absurd (clash q.boot_failed failed may.0)
   begun_in stages.Activating q n may known = absurd (none_at q.ended n may.1)
   begun_in stages.Backing q n may known = back_more q.plan (BootBegun n) refl known
   begun_in stages.Rolling q n may known = absurd (none_at q.ended n may.1)
@@ -126,7 +127,7 @@ module _ (d : Device) (records : List Record) where
   -- one ends, and was good
   moved_in : (s : Stage) (q : Pending) (n : List ℕ) (e : Exit) → MayEnd n (at s q) → WasTaken d records q.plan × KnownIn d records (at s q) s →
       Known d (records ++ BootEnded n e ∷ []) (Some (moved_on (at s q)))
-  moved_in stages.Booting q n e may known = (taken_more q.plan (BootEnded n e) refl known.0, λ failed name turn. absurd (clash q.boot_failed failed may.0))
+  moved_in stages.Booting q n e may known = (taken_more q.plan (BootEnded n e) refl known.0, λ failed name is_next. absurd (clash q.boot_failed failed may.0))
   moved_in stages.Activating q n e may known = absurd (none_at q.ended n may.1)
   moved_in stages.Backing q n e may known = by (has_gone_back (one_ended (at stages.Backing q)))
     where
@@ -138,8 +139,8 @@ module _ (d : Device) (records : List Record) where
   -- or failed
   failed_in : (s : Stage) (q : Pending) (n : List ℕ) (e : Exit) → goes_on e ≡ false → MayEnd n (at s q) → KnownIn d records (at s q) s →
       KnownIn d (records ++ BootEnded n e ∷ []) (record (at s q) { boot_failed = true }) s
-  failed_in stages.Booting q n e bad may known = λ failed name turn.
-      inl (records, e, ap (λ (x : List ℕ). records ++ BootEnded x e ∷ []) (some_same n name (sym may.1 ∙ turn)), bad)
+  failed_in stages.Booting q n e bad may known = λ failed name is_next.
+      inl (records, e, ap (λ (x : List ℕ). records ++ BootEnded x e ∷ []) (some_same n name (sym may.1 ∙ is_next)), bad)
   failed_in stages.Activating q n e bad may known = absurd (none_at q.ended n may.1)
   failed_in stages.Backing q n e bad may known = back_more q.plan (BootEnded n e) refl known
   failed_in stages.Rolling q n e bad may known = absurd (none_at q.ended n may.1)
@@ -218,8 +219,8 @@ module _ (d : Device) (records : List Record) where
   cause_in stages.Booting q n fails known = by q.boot_failed refl fails
     where
       by : (b : Bool) → q.boot_failed ≡ b → (if b then next_boot (at stages.Booting q) else None) ≡ Some n → HasCause d records (at stages.Booting q) n
-      by true failed turn = inl (record { stage = refl; failed = failed; turn = turn; recorded = known failed n turn })
-      by false failed turn = absurd cc
+      by true failed is_next = inl (record { stage = refl; failed = failed; next = is_next; recorded = known failed n is_next })
+      by false failed is_next = absurd cc
   cause_in stages.Activating q n fails known = by (broken (at stages.Activating q)) refl fails
     where
       by : (o : Option ℕ) → broken (at stages.Activating q) ≡ o → option_and_then (λ k. slice_get (map (λ i. i.name) q.plan.items) k) o ≡ Some n →
@@ -238,12 +239,12 @@ module _ (d : Device) (records : List Record) where
   cause_in stages.Backing q n fails known = absurd cc
   cause_in stages.Rolling q n fails known = absurd cc
 
-  turned_by : (c : Device) (q : Pending) (n : List ℕ) (r : Record) → (r ≡ Failing n) ⊎ (r ≡ FailingBack n) → Run d records c → c.pending ≡ Some q →
+  begun_by : (c : Device) (q : Pending) (n : List ℕ) (r : Record) → (r ≡ Failing n) ⊎ (r ≡ FailingBack n) → Run d records c → c.pending ≡ Some q →
       MayBreak n q → WasTaken d records q.plan × KnownIn d records q q.stage
-      → TurnsBack d (records ++ r ∷ []) q.plan
-  turned_by c q n r is run pending may known = record {
+      → HasBegunRollback d (records ++ r ∷ []) q.plan
+  begun_by c q n r is run pending may known = record {
     name = n;
-    turn = r;
+    failing = r;
     is = is;
     earlier = records;
     after = [];
@@ -281,14 +282,14 @@ module _ (d : Device) (records : List Record) where
   fails : (c : Device) (n : List ℕ) (o : Option Pending) → c.pending ≡ o → Run d records c → IsSomeAnd o (MayBreak n) → Known d records o →
       Known d (records ++ Failing n ∷ []) (option_map rolled o)
   fails c n None is run may known = absurd may
-  fails c n (Some q) is run may known = (taken_more q.plan (Failing n) refl known.0, inl (turned_by c q n (Failing n) (inl refl) run is may known))
+  fails c n (Some q) is run may known = (taken_more q.plan (Failing n) refl known.0, inl (begun_by c q n (Failing n) (inl refl) run is may known))
 
   fails_back : (c : Device) (n : List ℕ) (o : Option Pending) → c.pending ≡ o → Run d records c → IsSomeAnd o (MayGoBack c.origin c.set n) →
-      Known d records o → Known d (records ++ FailingBack n ∷ []) (option_map (turned_back c.origin c.set) o)
+      Known d records o → Known d (records ++ FailingBack n ∷ []) (option_map (sent_back c.origin c.set) o)
   fails_back c n None is run may known = absurd may
   fails_back c n (Some q) is run may known = (
     taken_more q.plan (FailingBack n) refl known.0,
-    inl (turned_by c q n (FailingBack n) (inr refl) run is may.0 known),
+    inl (begun_by c q n (FailingBack n) (inr refl) run is may.0 known),
   )
 
   closes : (c : Device) (x : Outcome) (o : Option Pending) → IsSomeAnd o (λ q. MayClose q x) → Known d (records ++ Closed x ∷ []) (close_pending x c o).pending
@@ -296,7 +297,7 @@ module _ (d : Device) (records : List Record) where
   closes c x (Some q) may = tt
 
 steps : (d : Device) → Steps d (λ records c. Known d records c.pending)
-steps d records c (Accepted p) run own allowed known = (inl (records, [], refl, refl), λ failed name turn. absurd (false≢true failed))
+steps d records c (Accepted p) run own allowed known = (inl (records, [], refl, refl), λ failed name is_next. absurd (false≢true failed))
 steps d records c (BootBegun n) run own allowed known = boot_begins d records n c.pending allowed known
 steps d records c (BootEnded n e) run own allowed known = boot_ends d records n e c.pending allowed known
 steps d records c Activating run own allowed known = activates d records c.pending allowed known
@@ -313,7 +314,7 @@ known_first d None is = tt
 known_first d (Some q) is = (inr (subst (λ (x : Option Pending). IsSomeAnd x (λ y. y.plan ≡ q.plan)) (sym is) refl, refl), by q.stage refl)
   where
     by : (s : Stage) → q.stage ≡ s → KnownIn d [] q s
-    by stages.Booting stage = λ failed name turn. inr (refl, is)
+    by stages.Booting stage = λ failed name is_next. inr (refl, is)
     by stages.Activating stage = λ k. inr (q, is, stage, refl, refl, omega arith)
     by stages.Backing stage = inr (record { q = q; pending = is; same = refl; back = ap is_way_back stage; since = refl })
     by stages.Rolling stage = inr (record { q = q; pending = is; same = refl; back = ap is_way_back stage; since = refl })
@@ -392,7 +393,7 @@ module _ (d : Device) (records : List Record) (c : Device) (k : KnownOf d record
   record_known (FailingBack n) run allowed = record {
     known = steps d records c (FailingBack n) run tt allowed k.known;
     placed =
-        pending_still (turned_back c.origin c.set);
+        pending_still (sent_back c.origin c.set);
   }
   record_known (Closed o) run allowed = record {
     known = steps d records c (Closed o) run tt allowed k.known;

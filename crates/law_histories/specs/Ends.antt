@@ -18,8 +18,8 @@ use Rattle.histories.specs.TraceEvents.{TraceEvent, Ran, Booted, Recorded, recor
 use Rattle.histories.specs.States.{SessionState, state_after}
 use Rattle.histories.specs.Follows.{IsBootChild, OwesBy}
 use Rattle.histories.specs.Waits.{boot_deadline}
-use Rattle.histories.specs.Causes.{IsTold}
-use Rattle.law_histories.specs.Stood.{IsHistory, Stood}
+use Rattle.histories.specs.Causes.{HasNoneOwed}
+use Rattle.law_histories.specs.Stood.{IsHistory, HasHappened}
 
 -- ---- of a component
 
@@ -40,7 +40,7 @@ pub record HasStepEnd (p : SessionState) (h : List TraceEvent) (name : List ℕ)
   pub entry : RunnerEntry
   pub who : ℕ
   pub before : List TraceEvent
-  pub stood : Stood h (Ran entry who s) before
+  pub stood : HasHappened h (Ran entry who s) before
   pub is : IsStepEnd (state_after p before).world entry.seen who s e
   pub fails : At who (λ q. (component_name q ≡ name) × (q.owed ≡ Some (s, e))) (state_after p (Ran entry who s ∷ before)).world.parts
   pub since : list_any is_step_failure (records_of stood.later) ≡ false
@@ -56,14 +56,14 @@ IsBootEnd q (seen.Exists x true) e = e ≡ exits.Code (pos 0)
 IsBootEnd q (seen.OnPath x true) e = e ≡ exits.Code (pos 0)
 IsBootEnd q x e = ⊥
 
--- In this call the bootstrap of this name, whose turn it was, ended so, and no record was kept since.
+-- In this call the bootstrap of this name, which was next, ended so, and no record was kept since.
 pub record HasBootEnd (p : SessionState) (h : List TraceEvent) (name : List ℕ) (e : Exit) : Type 0 where
   pub entry : RunnerEntry
   pub made : Prepared
   pub before : List TraceEvent
-  pub stood : Stood h (Booted entry made) before
+  pub stood : HasHappened h (Booted entry made) before
   pub is : IsBootEnd (state_after p before) entry.seen e
-  pub turn : (duty_of (state_after p before).device).turn ≡ Some name
+  pub next : (duty_of (state_after p before).device).next_bootstrap ≡ Some name
   pub since : records_of stood.later ≡ []
 
 -- ---- no failure
@@ -71,9 +71,9 @@ pub record HasBootEnd (p : SessionState) (h : List TraceEvent) (name : List ℕ)
 -- No end, no refused start and no passed limit in the call is a failure: no component owes one behind it, and each bootstrap
 -- ended well.
 pub record NoneFails (p : SessionState) (h : List TraceEvent) : Type 0 where
-  pub steps : (entry : RunnerEntry) (k : ℕ) (s : Step) (before : List TraceEvent) → Stood h (Ran entry k s) before →
-      IsTold (state_after p (Ran entry k s ∷ before))
-  pub boots : (entry : RunnerEntry) (m : Prepared) (e : Exit) (before : List TraceEvent) → Stood h (Booted entry m) before →
+  pub steps : (entry : RunnerEntry) (k : ℕ) (s : Step) (before : List TraceEvent) → HasHappened h (Ran entry k s) before →
+      HasNoneOwed (state_after p (Ran entry k s ∷ before))
+  pub boots : (entry : RunnerEntry) (m : Prepared) (e : Exit) (before : List TraceEvent) → HasHappened h (Booted entry m) before →
       IsBootEnd (state_after p before) entry.seen e → goes_on e ≡ true
 
 abbrev pub is_failure : Record → Bool
@@ -89,12 +89,12 @@ RecordsNoFailure h = list_any is_failure (records_of h) ≡ false
 -- Each failure that a call records is one that the component of that name still owed there, and the call has its end.
 abbrev pub FailuresEnded : Type 0
 FailuresEnded = (p : SessionState) (h before : List TraceEvent) (name : List ℕ) (s : Step) (e : Exit) → IsHistory p h →
-    Stood h (Recorded (StepFailed name s e)) before
+    HasHappened h (Recorded (StepFailed name s e)) before
     → OwesBy (state_after p before).world name s e × HasStepEnd p before name s e
 
 -- So it is with each end of a bootstrap.
 abbrev pub BootsEnded : Type 0
-BootsEnded = (p : SessionState) (h before : List TraceEvent) (name : List ℕ) (e : Exit) → IsHistory p h → Stood h (Recorded (BootEnded name e)) before
+BootsEnded = (p : SessionState) (h before : List TraceEvent) (name : List ℕ) (e : Exit) → IsHistory p h → HasHappened h (Recorded (BootEnded name e)) before
     → ((state_after p before).boot_end ≡ Some e) × HasBootEnd p before name e
 
 -- Where nothing fails no failure is recorded.

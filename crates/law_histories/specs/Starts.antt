@@ -18,22 +18,22 @@ use Rattle.components.specs.declared.kinds.Prepared.{Prepared}
 use Rattle.histories.specs.Phases.{begins_stage, duty_of}
 use Rattle.histories.specs.TraceEvents.{TraceEvent, Ran, Booted, records_of}
 use Rattle.histories.specs.States.{SessionState, state_after}
-use Rattle.histories.specs.Causes.{IsTold}
-use Rattle.law_histories.specs.Stood.{IsHistory, Stood}
+use Rattle.histories.specs.Causes.{HasNoneOwed}
+use Rattle.law_histories.specs.Stood.{IsHistory, HasHappened}
 
 -- ---- none while a failure is not recorded
 
 -- Where a step of a component starts, every failure of before is recorded.
-abbrev pub AllStartsTold : Type 0
-AllStartsTold = (p : SessionState) (h before : List TraceEvent) (e : RunnerEntry) (k : ℕ) (s : Step) (n : ℕ) (c : Command) → IsHistory p h →
-    Stood h (Ran e k s) before → e.seen ≡ seen.Started n c
-    → IsTold (state_after p before)
+abbrev pub AllStartsOweNone : Type 0
+AllStartsOweNone = (p : SessionState) (h before : List TraceEvent) (e : RunnerEntry) (k : ℕ) (s : Step) (n : ℕ) (c : Command) → IsHistory p h →
+    HasHappened h (Ran e k s) before → e.seen ≡ seen.Started n c
+    → HasNoneOwed (state_after p before)
 
 -- Where a bootstrap starts, so is every end of a bootstrap.
-abbrev pub AllBootsTold : Type 0
-AllBootsTold = (p : SessionState) (h before : List TraceEvent) (e : RunnerEntry) (m : Prepared) (n : ℕ) (c : Command) → IsHistory p h →
-    Stood h (Booted e m) before → e.seen ≡ seen.Started n c
-    → IsTold (state_after p before) × ((state_after p before).boot_end ≡ None)
+abbrev pub AllBootsOweNone : Type 0
+AllBootsOweNone = (p : SessionState) (h before : List TraceEvent) (e : RunnerEntry) (m : Prepared) (n : ℕ) (c : Command) → IsHistory p h →
+    HasHappened h (Booted e m) before → e.seen ≡ seen.Started n c
+    → HasNoneOwed (state_after p before) × ((state_after p before).boot_end ≡ None)
 
 -- ---- no ended bootstrap again
 
@@ -77,13 +77,13 @@ pub record IsFirstLeft (p : SessionState) (h : List TraceEvent) (m : Prepared) :
   pub ended : List (List ℕ)
   pub are : EndedInStage p.device (records_of h) q ended
   pub first : ended ≡ take q.ended (boots_of q)
-  pub turn : next_boot q ≡ Some name
+  pub next : next_boot q ≡ Some name
   pub new : IsDistinct bytes_eq (boots_of q) → Contains ended name → ⊥
 
 -- No bootstrap starts in a stage in which it ended.
 abbrev pub BootsStartOnce : Type 0
 BootsStartOnce = (p : SessionState) (h before : List TraceEvent) (e : RunnerEntry) (m : Prepared) (n : ℕ) (c : Command) → IsHistory p h →
-    Stood h (Booted e m) before → e.seen ≡ seen.Started n c
+    HasHappened h (Booted e m) before → e.seen ≡ seen.Started n c
     → IsFirstLeft p before m
 
 -- In a device that records have left the bootstraps of a stage differ by name.

@@ -15,11 +15,11 @@ pub record IsHistory (p : SessionState) (h : List TraceEvent) : Type 0 where
   pub run : Run p.device (records_of h) (state_after p h).device
 
 -- This stands in the history, and that happened before it.
-pub record Stood (h : List TraceEvent) (e : TraceEvent) (before : List TraceEvent) : Type 0 where
+pub record HasHappened (h : List TraceEvent) (e : TraceEvent) (before : List TraceEvent) : Type 0 where
   pub later : List TraceEvent
   pub split : h ≡ later ++ e ∷ before
 
 -- Each record of a history stands in it behind those that were kept before.
 abbrev pub RecordsStand : Type 0
 RecordsStand = (h : List TraceEvent) (earlier after : List Record) (r : Record) → records_of h ≡ earlier ++ r ∷ after
-    → (before : List TraceEvent) × Stood h (Recorded r) before × (records_of before ≡ earlier)
+    → (before : List TraceEvent) × HasHappened h (Recorded r) before × (records_of before ≡ earlier)

@@ -15,7 +15,7 @@ use Rattle.device.specs.Plans.{item_name}
 use Rattle.histories.specs.TraceEvents.{TraceEvent, Recorded, records_of}
 use Rattle.histories.specs.States.{SessionState, state_after, takes_document}
 use Rattle.histories.specs.Follows.{HasNoBacks}
-use Rattle.law_histories.specs.Stood.{IsHistory, Stood}
+use Rattle.law_histories.specs.Stood.{IsHistory, HasHappened}
 use Rattle.law_histories.specs.Ends.{is_step_failure}
 
 -- ---- which deployment
@@ -39,7 +39,7 @@ IsFailedLast d records q name = ((earlier : List Record) × (e : Exit) × (recor
 pub record HasFailedBoot (d : Device) (records : List Record) (q : Pending) (name : List ℕ) : Type 0 where
   pub stage : q.stage ≡ stages.Booting
   pub failed : q.boot_failed ≡ true
-  pub turn : next_boot q ≡ Some name
+  pub next : next_boot q ≡ Some name
   pub recorded : IsFailedLast d records q name
 
 abbrev pub is_at : ℕ → Option ℕ → Bool
@@ -78,16 +78,16 @@ pub record HasBrokenItem (d : Device) (records : List Record) (q : Pending) (nam
 abbrev pub HasCause : Device → List Record → Pending → List ℕ → Type 0
 HasCause d records q name = HasFailedBoot d records q name ⊎ HasBrokenItem d records q name
 
--- ---- that it was turned back
+-- ---- that it was rolled back
 
--- Among these records one turned it back, where its steps had failed.
-pub record TurnsBack (d : Device) (records : List Record) (plan : Plan) : Type 0 where
+-- Among these records one began its rollback, where its steps had failed.
+pub record HasBegunRollback (d : Device) (records : List Record) (plan : Plan) : Type 0 where
   pub name : List ℕ
-  pub turn : Record
-  pub is : (turn ≡ Failing name) ⊎ (turn ≡ FailingBack name)
+  pub failing : Record
+  pub is : (failing ≡ Failing name) ⊎ (failing ≡ FailingBack name)
   pub earlier : List Record
   pub after : List Record
-  pub split : records ≡ earlier ++ turn ∷ after
+  pub split : records ≡ earlier ++ failing ∷ after
   pub since : TakesNone after
   pub taken : WasTaken d earlier plan
   -- the device at that place, and the deployment that is pending in it
@@ -102,28 +102,28 @@ abbrev pub is_way_back : Stage → Bool
 is_way_back stage = elim stage [ stages.Booting ↦ false | stages.Activating ↦ false | stages.Backing ↦ true | stages.Rolling ↦ true ]
 
 -- It was on its way back already at the start.
-pub record WasTurned (d : Device) (records : List Record) (plan : Plan) : Type 0 where
+pub record WasOnWayBack (d : Device) (records : List Record) (plan : Plan) : Type 0 where
   pub q : Pending
   pub pending : d.pending ≡ Some q
   pub same : q.plan ≡ plan
   pub back : is_way_back q.stage ≡ true
   pub since : TakesNone records
 
-abbrev pub IsTurned : Device → List Record → Plan → Type 0
-IsTurned d records plan = TurnsBack d records plan ⊎ WasTurned d records plan
+abbrev pub HasRolledBack : Device → List Record → Plan → Type 0
+HasRolledBack d records plan = HasBegunRollback d records plan ⊎ WasOnWayBack d records plan
 
 -- how the pending deployment may close behind these records, with its policy
 abbrev pub IsCaused : Device → List Record → Pending → Outcome → Type 0
 IsCaused d records q outcomes.Successful = ⊤
 IsCaused d records q outcomes.RollbackNotRequested = q.plan.policy ≡ policies.DoNothing
-IsCaused d records q outcomes.RollbackComplete = IsTurned d records q.plan
-IsCaused d records q outcomes.UnableToRollback = IsTurned d records q.plan
+IsCaused d records q outcomes.RollbackComplete = HasRolledBack d records q.plan
+IsCaused d records q outcomes.UnableToRollback = HasRolledBack d records q.plan
 
 -- ---- laws
 
 -- A deployment closes as its whole new set; as it is, without ROLLBACK; or else only where its steps failed and that is recorded.
 abbrev pub ClosesCaused : Type 0
-ClosesCaused = (p : SessionState) (h before : List TraceEvent) (o : Outcome) → IsHistory p h → Stood h (Recorded (Closed o)) before
+ClosesCaused = (p : SessionState) (h before : List TraceEvent) (o : Outcome) → IsHistory p h → HasHappened h (Recorded (Closed o)) before
     → IsSomeAnd (state_after p before).device.pending (λ q. IsCaused p.device (records_of before) q o)
 
 -- So it is along every run, over however many calls. A deployment is pending only in a device that has an origin.
@@ -131,7 +131,7 @@ abbrev pub RunsCloseCaused : Type 0
 RunsCloseCaused = (d e : Device) (before after : List Record) (o : Outcome) → (d.origin ≡ None → d.pending ≡ None) → Run d (before ++ Closed o ∷ after) e
     → (c : Device) × Run d before c × IsSomeAnd c.pending (λ q. IsCaused d before q o)
 
--- It turns back by the record that names no bootstraps only where none of the set is to run again.
-abbrev pub AllTurnsPlain : Type 0
-AllTurnsPlain = (p : SessionState) (h before : List TraceEvent) (name : List ℕ) → IsHistory p h → Stood h (Recorded (Failing name)) before →
+-- It is rolled back by the record that names no bootstraps only where none of the set is to run again.
+abbrev pub AllRollbacksPlain : Type 0
+AllRollbacksPlain = (p : SessionState) (h before : List TraceEvent) (name : List ℕ) → IsHistory p h → HasHappened h (Recorded (Failing name)) before →
     HasNoBacks (state_after p before).device

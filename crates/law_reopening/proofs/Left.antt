@@ -14,7 +14,7 @@ use Rattle.histories.specs.States.{SessionState, state_after}
 use Rattle.histories.specs.Follows.{IsLast}
 use Rattle.histories.proofs.Joined.{records-append}
 use Rattle.session_boots.specs.Ends.{StopsAt}
-use Rattle.law_histories.specs.Stood.{IsHistory, Stood}
+use Rattle.law_histories.specs.Stood.{IsHistory, HasHappened}
 use Rattle.law_histories.proofs.Beginning.{boots_start_once}
 use Rattle.law_histories.proofs.Histories.{silent}
 use Rattle.law_reopening.specs.Failed.{HasBehind, is_start, starts}
@@ -66,42 +66,42 @@ goes_on more e before start = (records_of more, records-append more (e ∷ befor
     one (Recorded r) start = absurd (false≢true start)
     one e start = (silent e refl).records before
 
--- a front that lacks one at most has all but the last
-front_of : (front rest all : List Record) (last : Record) → all ++ last ∷ [] ≡ front ++ rest → length rest ≤ 1 → (a : List Record) × (front ≡ all ++ a)
-front_of front [] all last is few = (last ∷ [], sym (append-nil front) ∙ sym is)
-front_of [] (x ∷ []) [] last is few = ([], refl)
-front_of [] (x ∷ []) (y ∷ all) last is few = absurd (too_short all last x y is)
+-- a prefix that lacks one at most has all but the last
+prefix_of : (prefix rest all : List Record) (last : Record) → all ++ last ∷ [] ≡ prefix ++ rest → length rest ≤ 1 → (a : List Record) × (prefix ≡ all ++ a)
+prefix_of prefix [] all last is few = (last ∷ [], sym (append-nil prefix) ∙ sym is)
+prefix_of [] (x ∷ []) [] last is few = ([], refl)
+prefix_of [] (x ∷ []) (y ∷ all) last is few = absurd (too_short all last x y is)
   where
     too_short : (all : List Record) (last x y : Record) → y ∷ (all ++ last ∷ []) ≡ x ∷ [] → ⊥
     too_short [] last x y is = absurd cc
     too_short (z ∷ all) last x y is = absurd cc
-front_of (f ∷ front) (x ∷ []) [] last is few = absurd (too_long front last f x is)
+prefix_of (f ∷ prefix) (x ∷ []) [] last is few = absurd (too_long prefix last f x is)
   where
-    too_long : (front : List Record) (last f x : Record) → last ∷ [] ≡ f ∷ (front ++ x ∷ []) → ⊥
+    too_long : (prefix : List Record) (last f x : Record) → last ∷ [] ≡ f ∷ (prefix ++ x ∷ []) → ⊥
     too_long [] last f x is = absurd cc
-    too_long (z ∷ front) last f x is = absurd cc
-front_of (f ∷ front) (x ∷ []) (y ∷ all) last is few =
-    let r = front_of front (x ∷ []) all last (tail f y is) few in
-    (r.0, ap (λ (v : Record). v ∷ front) (sym (head f y is)) ∙ ap (λ (l : List Record). y ∷ l) r.1)
+    too_long (z ∷ prefix) last f x is = absurd cc
+prefix_of (f ∷ prefix) (x ∷ []) (y ∷ all) last is few =
+    let r = prefix_of prefix (x ∷ []) all last (tail f y is) few in
+    (r.0, ap (λ (v : Record). v ∷ prefix) (sym (head f y is)) ∙ ap (λ (l : List Record). y ∷ l) r.1)
   where
-    head : (f y : Record) → y ∷ (all ++ last ∷ []) ≡ f ∷ (front ++ x ∷ []) → y ≡ f
+    head : (f y : Record) → y ∷ (all ++ last ∷ []) ≡ f ∷ (prefix ++ x ∷ []) → y ≡ f
     head f y is = cc
 
-    tail : (f y : Record) → y ∷ (all ++ last ∷ []) ≡ f ∷ (front ++ x ∷ []) → all ++ last ∷ [] ≡ front ++ x ∷ []
+    tail : (f y : Record) → y ∷ (all ++ last ∷ []) ≡ f ∷ (prefix ++ x ∷ []) → all ++ last ∷ [] ≡ prefix ++ x ∷ []
     tail f y is = cc
-front_of front (x ∷ y ∷ rest) all last is few = absurd (omega arith)
+prefix_of prefix (x ∷ y ∷ rest) all last is few = absurd (omega arith)
 
 -- ---- images
 
 module _ (entries : Image → List (List ℕ) → Type 0) {D : Type 0} (may_leave : D → Image → Type 0) (disk : D) (p : SessionState)
     (h before : List TraceEvent) (e : TraceEvent)
-    (whole : IsHistory p h) (left : IsLeft entries may_leave disk p h) (stood : Stood h e before) (start : starts e ≡ true) where
+    (whole : IsHistory p h) (left : IsLeft entries may_leave disk p h) (stood : HasHappened h e before) (start : starts e ≡ true) where
   -- all records are there
   in_all : ((c : Image) → may_leave disk c → StandsFor entries c (state_after p h).device) → AllKeep entries may_leave disk p h (records_of before)
   in_all stands c is =
       let on = goes_on stood.later e before start in (
         record {
-          front = records_of h;
+          prefix = records_of h;
           rest = [];
           split = sym (append-nil (records_of h));
           device = (state_after p h).device;
@@ -120,8 +120,8 @@ module _ (entries : Image → List (List ℕ) → Type 0) {D : Type 0} (may_leav
       let on = goes_on b.0 e before start in
       let all : records_of h ≡ records_of stops.before ++ stops.last ∷ []
       = ap records_of stops.split ∙ cuts_quiet stops.cuts (Recorded stops.last ∷ stops.before) stops.kills in
-      let r = front_of f.front f.rest (records_of stops.before) stops.last (sym all ∙ f.split) f.few in (
-        record { front = f.front; rest = f.rest; split = f.split; device = f.device; run = f.run; stands = f.stands },
+      let r = prefix_of f.prefix f.rest (records_of stops.before) stops.last (sym all ∙ f.split) f.few in (
+        record { prefix = f.prefix; rest = f.rest; split = f.split; device = f.device; run = f.run; stands = f.stands },
         on.0 ++ r.0,
         r.1 ∙ ap (λ (l : List Record). l ++ r.0) (ap records_of b.1 ∙ on.1) ∙ append_assoc (records_of before) on.0 r.0,
       )
@@ -146,7 +146,7 @@ module _ (entries : Image → List (List ℕ) → Type 0) {D : Type 0} (may_leav
   failures_stand disk p h before e name s x whole left stood start failed c is =
       let told = failures_told p h before e name s x whole stood start failed in
       let k = kept entries may_leave disk p h before e whole left stood start c is in
-      let behind : HasBehind (records_of failed.before) k.0.front (stored.StepFailed name s x)
+      let behind : HasBehind (records_of failed.before) k.0.prefix (stored.StepFailed name s x)
       = (
         told.0,
         told.1 ++ k.1,

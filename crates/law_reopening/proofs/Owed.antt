@@ -17,7 +17,7 @@ use Rattle.step_runner.specs.declared.entries.Seen.{Seen}
 use Rattle.step_runner.specs.declared.entries.Seen.TheVariants as seen
 use Rattle.components.specs.Changes.{leaving}
 use Rattle.components.specs.Components.{Components, ComponentState, At, changed_at, child_gone, component_name, owner, place_of, without_child}
-use Rattle.components.specs.Events.{told_at}
+use Rattle.components.specs.Events.{heard_at}
 use Rattle.components.specs.Turns.{owes}
 use Rattle.components.specs.declared.kinds.Prepared.{Prepared}
 use Rattle.histories.specs.Phases.{Duty, duty_in, duty_of, is_idle}
@@ -30,7 +30,7 @@ use Rattle.law_histories.proofs.Debts.{Debt, Named, Owes, changed_same, debt, de
 use Rattle.law_histories.proofs.Duties.{duty_by}
 use Rattle.law_histories.proofs.Facts.{some_same}
 use Rattle.law_histories.proofs.Histories.{history_at, silent}
-use Rattle.law_reopening.specs.Failed.{FailuresTold, is_start, starts}
+use Rattle.law_reopening.specs.Failed.{FailuresComeFirst, is_start, starts}
 
 -- ---- who owes
 
@@ -70,16 +70,16 @@ one_debt ps k name n f g is other =
 -- ---- what needs that nobody owes
 
 ran_told : (d : Duty) (q : SessionState) (s : Seen) (k : ℕ) (t : Step) → MayRun d q s k t → list_any owes q.world.parts ≡ false
-ran_told d q (seen.Started n c) k t may = may.0.told
-ran_told d q (seen.Refused c) k t may = may.0.told
-ran_told d q (seen.Exists x found) k t may = may.0.told
-ran_told d q (seen.OnPath x found) k t may = may.0.told
-ran_told d q (seen.Killed n) k t may = may.0.told
-ran_told d q (seen.Ended n e limit) k t may = may.0.quiet.told
+ran_told d q (seen.Started n c) k t may = may.0.owes_none
+ran_told d q (seen.Refused c) k t may = may.0.owes_none
+ran_told d q (seen.Exists x found) k t may = may.0.owes_none
+ran_told d q (seen.OnPath x found) k t may = may.0.owes_none
+ran_told d q (seen.Killed n) k t may = may.0.owes_none
+ran_told d q (seen.Ended n e limit) k t may = may.0.quiet.owes_none
 ran_told d q (seen.Elapsed limit) k t may = absurd may
 
 boot_told : (d : Duty) (q : SessionState) (s : Seen) (m : Prepared) → is_start s ≡ true → MayBooted d q s m → list_any owes q.world.parts ≡ false
-boot_told d q (seen.Started n c) m is may = may.0.told
+boot_told d q (seen.Started n c) m is may = may.0.owes_none
 boot_told d q s m is may = absurd (false≢true is)
 
 start_told : (q : SessionState) (e : TraceEvent) → starts e ≡ true → MayFollow q e → list_any owes q.world.parts ≡ false
@@ -127,7 +127,7 @@ cut_debts (seen.Killed n) q = by (owner n q.world.parts)
 cut_debts s q = refl
 
 abbrev told_by : Components → Option ℕ → Components
-told_by w o = elim o [ None ↦ w | Some k ↦ told_at k w ]
+told_by w o = elim o [ None ↦ w | Some k ↦ heard_at k w ]
 
 module _ (p : SessionState) (h : List TraceEvent) (k : ℕ) (name : List ℕ) (f : Step × Exit) where
   -- It is owed still; or this records it.
@@ -184,18 +184,18 @@ module _ (p : SessionState) (h : List TraceEvent) (k : ℕ) (name : List ℕ) (f
   next (Recorded (stored.StepFailed n s x)) may owed = failure_next n s x may.0 owed
   next (Recorded (stored.BootEnded n x)) may owed =
       still (Recorded (stored.BootEnded n x)) refl (λ is. pending_still (boot_ended x) (state_after p h).device.pending is) owed
-  next (Recorded (stored.Accepted x)) may owed = never (Recorded (stored.Accepted x)) may.0.0.told owed
-  next (Recorded (stored.BootBegun n)) may owed = never (Recorded (stored.BootBegun n)) may.0.0.told owed
-  next (Recorded stored.Activating) may owed = never (Recorded stored.Activating) may.0.told owed
-  next (Recorded (stored.Failing n)) may owed = never (Recorded (stored.Failing n)) may.0.0.told owed
-  next (Recorded (stored.FailingBack n)) may owed = never (Recorded (stored.FailingBack n)) may.0.told owed
-  next (Recorded (stored.Closed o)) may owed = never (Recorded (stored.Closed o)) may.0.0.told owed
+  next (Recorded (stored.Accepted x)) may owed = never (Recorded (stored.Accepted x)) may.0.0.owes_none owed
+  next (Recorded (stored.BootBegun n)) may owed = never (Recorded (stored.BootBegun n)) may.0.0.owes_none owed
+  next (Recorded stored.Activating) may owed = never (Recorded stored.Activating) may.0.owes_none owed
+  next (Recorded (stored.Failing n)) may owed = never (Recorded (stored.Failing n)) may.0.0.owes_none owed
+  next (Recorded (stored.FailingBack n)) may owed = never (Recorded (stored.FailingBack n)) may.0.owes_none owed
+  next (Recorded (stored.Closed o)) may owed = never (Recorded (stored.Closed o)) may.0.0.owes_none owed
   next (Recorded r) may owed = absurd may.0
-  next (Moved j e) may owed = never (Moved j e) may.0.1.told owed
+  next (Moved j e) may owed = never (Moved j e) may.0.1.owes_none owed
   next (ReadClock m) may owed = still (ReadClock m) refl (λ is. is) owed
   next (Heard j) may owed = absurd (pending_busy (state_after p h).device owed.1 may.0.0)
-  next (InboxAsked a) may owed = never (InboxAsked a) may.0.quiet.told owed
-  next (Changed items counts steady) may owed = never (Changed items counts steady) may.0.told owed
+  next (InboxAsked a) may owed = never (InboxAsked a) may.0.quiet.owes_none owed
+  next (Changed items counts steady) may owed = never (Changed items counts steady) may.0.owes_none owed
   next StopsAll may owed = still StopsAll (each_same debt leaving leaving_debt (state_after p h).world.parts) (λ is. is) owed
 
 -- ---- until it is recorded
@@ -227,7 +227,7 @@ owed_until p (e ∷ later) h k name f proper owed = elim (owed_until p later h k
 
 -- ---- where something starts
 
-pub failures_told : FailuresTold
+pub failures_told : FailuresComeFirst
 failures_told p h before e name s x is stood start failed =
     let here = history_at p h e before is stood in
     let first : List TraceEvent = Ran failed.entry failed.who s ∷ failed.before in

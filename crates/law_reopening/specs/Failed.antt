@@ -9,7 +9,7 @@ use Rattle.step_runner.specs.declared.entries.Seen.TheVariants as seen
 use Rattle.components.specs.Components.{At, component_name}
 use Rattle.histories.specs.TraceEvents.{TraceEvent, Ran, Booted, records_of}
 use Rattle.histories.specs.States.{SessionState, state_after}
-use Rattle.law_histories.specs.Stood.{IsHistory, Stood}
+use Rattle.law_histories.specs.Stood.{IsHistory, HasHappened}
 
 abbrev pub is_start : Seen → Bool
 is_start (seen.Started n c) = true
@@ -26,7 +26,7 @@ pub record HasFailed (p : SessionState) (h : List TraceEvent) (name : List ℕ) 
   pub entry : RunnerEntry
   pub who : ℕ
   pub before : List TraceEvent
-  pub stood : Stood h (Ran entry who s) before
+  pub stood : HasHappened h (Ran entry who s) before
   pub fails : At who (λ q. (component_name q ≡ name) × (q.owed ≡ Some (s, e))) (state_after p (Ran entry who s ∷ before)).world.parts
   pub pending : is_some (state_after p before).device.pending ≡ true
 
@@ -35,7 +35,8 @@ abbrev pub HasBehind : List Record → List Record → Record → Type 0
 HasBehind those records r = (earlier : List Record) × (after : List Record) × (records ≡ those ++ (earlier ++ r ∷ after))
 
 -- Where something starts, each failure of before is recorded, behind what was recorded when it came.
-abbrev pub FailuresTold : Type 0
-FailuresTold = (p : SessionState) (h before : List TraceEvent) (e : TraceEvent) (name : List ℕ) (s : Step) (x : Exit) → IsHistory p h → Stood h e before →
+abbrev pub FailuresComeFirst : Type 0
+FailuresComeFirst = (p : SessionState) (h before : List TraceEvent) (e : TraceEvent) (name : List ℕ) (s : Step) (x : Exit) → IsHistory p h
+    → HasHappened h e before →
     starts e ≡ true → (f : HasFailed p before name s x)
     → HasBehind (records_of f.before) (records_of before) (StepFailed name s x)

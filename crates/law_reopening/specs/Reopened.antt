@@ -12,7 +12,7 @@ use Rattle.histories.specs.States.{SessionState, state_after}
 use Rattle.session_boots.specs.Ends.{StopsAt}
 use Rattle.session_boots.specs.Traces.{StandsForPrefix, StandsForMost}
 use Rattle.law_histories.specs.Starts.{IsFirstLeft}
-use Rattle.law_histories.specs.Stood.{IsHistory, Stood}
+use Rattle.law_histories.specs.Stood.{IsHistory, HasHappened}
 use Rattle.law_reopening.specs.Failed.{HasBehind, HasFailed, is_start, starts}
 
 module _ (entries : Image → List (List ℕ) → Type 0) {D : Type 0} (may_leave : D → Image → Type 0) where
@@ -22,25 +22,25 @@ module _ (entries : Image → List (List ℕ) → Type 0) {D : Type 0} (may_leav
     pub stands : (c : Image) → may_leave disk c → StandsForMost entries p.device (records_of h) c
     pub doubt : ((c : Image) → may_leave disk c → StandsFor entries c (state_after p h).device) ⊎ StopsAt h
 
-  -- each image stands for the device of a front of the records that begins with these
+  -- each image stands for the device of a prefix of the records that begins with these
   abbrev pub AllKeep : D → SessionState → List TraceEvent → List Record → Type 0
   AllKeep disk p h kept = (c : Image) → may_leave disk c → (f : StandsForPrefix entries p.device (records_of h) c) × (more : List Record) ×
-      (f.front ≡ kept ++ more)
+      (f.prefix ≡ kept ++ more)
 
   -- Where something starts in a call, each image at its end has all that was recorded before.
   abbrev pub StartsStand : Type 0
-  StartsStand = (disk : D) (p : SessionState) (h before : List TraceEvent) (e : TraceEvent) → IsHistory p h → IsLeft disk p h → Stood h e before →
+  StartsStand = (disk : D) (p : SessionState) (h before : List TraceEvent) (e : TraceEvent) → IsHistory p h → IsLeft disk p h → HasHappened h e before →
       starts e ≡ true
       → AllKeep disk p h (records_of before)
 
   -- So it is where a bootstrap starts, whose beginning is the last of these; or none of these is there, and it had begun as the call began.
   abbrev pub BootStartsStand : Type 0
   BootStartsStand = (disk : D) (p : SessionState) (h before : List TraceEvent) (e : RunnerEntry) (m : Prepared) → IsHistory p h → IsLeft disk p h →
-      Stood h (Booted e m) before → is_start e.seen ≡ true
+      HasHappened h (Booted e m) before → is_start e.seen ≡ true
       → IsFirstLeft p before m × AllKeep disk p h (records_of before)
 
   -- Where something starts behind the failure of a component, each image at the end of the call has the record of that failure.
   abbrev pub FailuresStand : Type 0
   FailuresStand = (disk : D) (p : SessionState) (h before : List TraceEvent) (e : TraceEvent) (name : List ℕ) (s : Step) (x : Exit) → IsHistory p h →
-      IsLeft disk p h → Stood h e before → starts e ≡ true → (f : HasFailed p before name s x) (c : Image) → may_leave disk c
-      → (g : StandsForPrefix entries p.device (records_of h) c) × HasBehind (records_of f.before) g.front (StepFailed name s x)
+      IsLeft disk p h → HasHappened h e before → starts e ≡ true → (f : HasFailed p before name s x) (c : Image) → may_leave disk c
+      → (g : StandsForPrefix entries p.device (records_of h) c) × HasBehind (records_of f.before) g.prefix (StepFailed name s x)

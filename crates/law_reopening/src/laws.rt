@@ -1,5 +1,5 @@
 // Laws of the images at the end of a call, on a function that does nothing.
-ghost use Rattle.law_reopening.specs.Failed.{FailuresTold};
+ghost use Rattle.law_reopening.specs.Failed.{FailuresComeFirst};
 ghost use Rattle.law_reopening.specs.Reopened.{BootStartsStand, FailuresStand, StartsStand};
 
 use disk_model::Disk;
@@ -9,7 +9,7 @@ use gate_log::Journal;
 /// bootstrap that started has its beginning there, or had it as the call began; and no step and no bootstrap starts behind a failure
 /// of a component, while a deployment is pending, whose record one of these images lacks. It does nothing.
 pub fn starts_stand<J: Journal, D: Disk>()
-    ensures told { FailuresTold }
+    ensures recorded { FailuresComeFirst }
     ensures starts { StartsStand J.entries D.may_leave }
     ensures boots { BootStartsStand J.entries D.may_leave }
     ensures failures { FailuresStand J.entries D.may_leave }

@@ -102,10 +102,10 @@ module _ (p : SessionState) (a : Option Answer) (t : Bool) (q : SessionState) (o
     at = b.at;
     item = b.item;
     there = b.there;
-    turn = b.turn;
+    next = b.next;
     prepared = b.prepared;
     stopped = b.stopped;
-    told = b.told;
+    owes_none = b.owes_none;
     alone = b.alone;
     no_end = b.no_end;
   }
@@ -146,7 +146,7 @@ module _ (p : SessionState) (a : Option Answer) (t : Bool) (q : SessionState) (o
   drive_on rolling shutting_down on = absurd (false≢true on)
 
   clear_on : IsClear q → IsClear B
-  clear_on c = record { told = c.told; alone = c.alone; no_end = c.no_end; on = c.on }
+  clear_on c = record { owes_none = c.owes_none; alone = c.alone; no_end = c.no_end; on = c.on }
 
   close_on : (o : Outcome) → MayClose q o → MayClose B o
   close_on outcomes.Successful may = may
@@ -401,7 +401,7 @@ follow_on p q a t (Changed f c b) tw may allowed up =
           recorded = m.recorded;
           few = m.few;
           mode = m.mode;
-          told = m.told;
+          owes_none = m.owes_none;
           answered = m.answered;
         },
         may.1,

@@ -7,7 +7,7 @@ use Rattle.nuc_base.specs.declared.kinds.Outcome.{Outcome}
 use Rattle.records.specs.Stored.{Record, Genesis, Accepted, BootBegun, BootEnded, Activating, StepFailed, Failing, FailingBack, Closed}
 use Rattle.device.specs.Devices.{Device, Pending}
 use Rattle.device.specs.Lawful.{Allowed, MayBegin, MayEnd, MayActivate, MayFail, MayBreak, MayGoBack, MayClose}
-use Rattle.device.specs.Lawful.{activated, applied, begun, boot_ended, close_pending, count_failure, on_pending, rolled, turned_back}
+use Rattle.device.specs.Lawful.{activated, applied, begun, boot_ended, close_pending, count_failure, on_pending, rolled, sent_back}
 use Rattle.device.specs.declared.staged.Stage.{Stage}
 use Rattle.device.specs.declared.staged.Stage.TheVariants as stages
 use Rattle.histories.specs.Phases.{duty_in, duty_of, idle, is_idle}
@@ -107,7 +107,7 @@ stays_idle q (BootEnded n e) not is = mapped_idle q.device (boot_ended e) is
 stays_idle q Activating not is = mapped_idle q.device activated is
 stays_idle q (StepFailed n s e) not is = mapped_idle q.device (count_failure q.device.set n) is
 stays_idle q (Failing n) not is = mapped_idle q.device rolled is
-stays_idle q (FailingBack n) not is = mapped_idle q.device (turned_back q.device.origin q.device.set) is
+stays_idle q (FailingBack n) not is = mapped_idle q.device (sent_back q.device.origin q.device.set) is
 stays_idle q (Accepted x) not is = absurd (false≢true (sym not))
 stays_idle q (Closed o) not is = absurd (false≢true (sym not))
 stays_idle q (Genesis o) not is = absurd (false≢true (sym not))

@@ -11,9 +11,9 @@ use Rattle.device.specs.declared.staged.Stage.{Stage}
 use Rattle.device.specs.declared.staged.Stage.TheVariants as stages
 use Rattle.step_runner.specs.declared.entries.Seen.{Seen}
 use Rattle.step_runner.specs.declared.entries.Seen.TheVariants as seen
-use Rattle.components.specs.Acts.{Move, Quietly}
+use Rattle.components.specs.Acts.{Move, MovesInOrder}
 use Rattle.components.specs.Components.{Components, child_gone, owner, place_of, without_child}
-use Rattle.components.specs.Events.{killed, told_at, told_of}
+use Rattle.components.specs.Events.{killed, heard_at, heard_of}
 use Rattle.components.specs.Lives.{lived_at}
 use Rattle.components.specs.Platforms.{AllFor, AllRunFor, RunsFor}
 use Rattle.components.specs.declared.kinds.Event.TheVariants as events
@@ -56,9 +56,9 @@ booted_world s m p = refl
 
 -- what befalls the components keeps it
 pub record KeepRecipes : Type 0 where
-  pub moves : (platform : Platform) (w v : Components) (ms : List Move) → Quietly w ms v → AllRunFor platform w.parts → AllRunFor platform v.parts
+  pub moves : (platform : Platform) (w v : Components) (ms : List Move) → MovesInOrder w ms v → AllRunFor platform w.parts → AllRunFor platform v.parts
   pub kills : (platform : Platform) (n : ℕ) (w : Components) → AllRunFor platform w.parts → AllRunFor platform (killed n w).parts
-  pub tellings : (platform : Platform) (k : ℕ) (w : Components) → AllRunFor platform w.parts → AllRunFor platform (told_at k w).parts
+  pub tellings : (platform : Platform) (k : ℕ) (w : Components) → AllRunFor platform w.parts → AllRunFor platform (heard_at k w).parts
 
 module _ (laws : KeepRecipes) (o : Origin) where
   abbrev Run_all : Components → Type 0
@@ -86,10 +86,10 @@ module _ (laws : KeepRecipes) (o : Origin) where
   cut_runs (seen.Killed n) p a = cut_child_runs n p.world a
   cut_runs s p a = a
 
-  told_of_runs : (name : List ℕ) (w : Components) → Run_all w → Run_all (told_of name w)
+  told_of_runs : (name : List ℕ) (w : Components) → Run_all w → Run_all (heard_of name w)
   told_of_runs name w a = by (place_of name w.parts)
     where
-      by : (x : Option ℕ) → Run_all (elim x [ None ↦ w | Some k ↦ told_at k w ])
+      by : (x : Option ℕ) → Run_all (elim x [ None ↦ w | Some k ↦ heard_at k w ])
       by None = a
       by (Some k) = laws.tellings o.platform k w a
 
@@ -149,10 +149,10 @@ mode_ran (seen.OnPath x false) k t w = refl
 mode_ran (seen.Ended n e l) k t w = ended_steady n e w
 mode_ran (seen.Elapsed l) k t w = refl
 
-mode_told : (name : List ℕ) (w : Components) → (told_of name w).steady ≡ w.steady
+mode_told : (name : List ℕ) (w : Components) → (heard_of name w).steady ≡ w.steady
 mode_told name w = by (place_of name w.parts)
   where
-    by : (x : Option ℕ) → (let v : Components = (elim x [ None ↦ w | Some k ↦ told_at k w ]) in v.steady) ≡ w.steady
+    by : (x : Option ℕ) → (let v : Components = (elim x [ None ↦ w | Some k ↦ heard_at k w ]) in v.steady) ≡ w.steady
     by None = refl
     by (Some k) = refl
 

@@ -12,7 +12,7 @@ use Rattle.components.specs.Components.{Components, ComponentState, component_na
 use Rattle.components.specs.Events.{answered_at, refused, skipped}
 use Rattle.components.specs.Turns.{owes}
 use Rattle.law_supervisor.specs.Sound.{IsSoundPart, IsOrderly}
-use Rattle.law_supervisor.specs.Keeps.{IsCounted, Keeps, IsTold}
+use Rattle.law_supervisor.specs.Keeps.{IsCounted, IsSupervised, HasNoneOwed}
 use Rattle.law_supervisor.proofs.Lists.{changed_all, changed_same, any_same}
 use Rattle.law_supervisor.proofs.Alone.{sound_these, counted_these}
 use Rattle.law_supervisor.proofs.Counts.{same_owner}
@@ -28,12 +28,12 @@ answered_orderly k w i = orderly_same w (answered_at k w) i
     (changed_same component_name k (λ p. record p { handed = false }) w.parts (λ p q. refl))
     (answered_children k w)
 
-answered_keeps : (d : Device) (k : ℕ) (w : Components) → Keeps d w → Keeps d (answered_at k w)
+answered_keeps : (d : Device) (k : ℕ) (w : Components) → IsSupervised d w → IsSupervised d (answered_at k w)
 answered_keeps d k w i = keep_from d w (answered_at k w) i (answered_orderly k w (order_of d w i))
     (changed_all (IsCounted d) k (λ p. record p { handed = false }) w.parts (counted_of d w i) (λ p q x. counted_these d p p.children false x))
     refl
 
-answered_told : (k : ℕ) (w : Components) → IsTold w → IsTold (answered_at k w)
+answered_told : (k : ℕ) (w : Components) → HasNoneOwed w → HasNoneOwed (answered_at k w)
 answered_told k w t = any_same owes w.parts (answered_at k w).parts (changed_same owes k (λ p. record p { handed = false }) w.parts (λ p q. refl)) ∙ t
 
 pub refused_befalls : (k : ℕ) (s : Step) (w : Components) → BefallsAt k (event.Ended s exits.NotStarted) w
@@ -42,7 +42,7 @@ refused_befalls k s w p q x = (tt, or_right (not (is_same_step s step.Run && is_
 pub refused_orderly : (k : ℕ) (s : Step) (w : Components) → IsOrderly w → IsOrderly (refused k s w)
 refused_orderly k s w i = plain_orderly k (event.Ended s exits.NotStarted) (answered_at k w) (answered_orderly k w i) (refused_befalls k s (answered_at k w))
 
-pub refused_keeps : (d : Device) (k : ℕ) (s : Step) (w : Components) → IsTold w → Keeps d w → Keeps d (refused k s w)
+pub refused_keeps : (d : Device) (k : ℕ) (s : Step) (w : Components) → HasNoneOwed w → IsSupervised d w → IsSupervised d (refused k s w)
 refused_keeps d k s w t i = plain_keeps d k (event.Ended s exits.NotStarted) (answered_at k w) (answered_told k w t) (answered_keeps d k w i)
     (refused_befalls k s (answered_at k w))
 
@@ -55,7 +55,7 @@ skipped_befalls k w p q x = (tt, refl, refl)
 pub skipped_orderly : (k : ℕ) (w : Components) → IsOrderly w → IsOrderly (skipped k w)
 skipped_orderly k w i = plain_orderly k event.Skipped (answered_at k w) (answered_orderly k w i) (skipped_befalls k (answered_at k w))
 
-pub skipped_keeps : (d : Device) (k : ℕ) (w : Components) → IsTold w → Keeps d w → Keeps d (skipped k w)
+pub skipped_keeps : (d : Device) (k : ℕ) (w : Components) → HasNoneOwed w → IsSupervised d w → IsSupervised d (skipped k w)
 skipped_keeps d k w t i = plain_keeps d k event.Skipped (answered_at k w) (answered_told k w t) (answered_keeps d k w i) (skipped_befalls k (answered_at k w))
 
 pub skipped_owner : (k : ℕ) (m : ℕ) (w : Components) → owner m (skipped k w).parts ≡ owner m w.parts

@@ -16,8 +16,8 @@ use Rattle.components.specs.Components.{Components, ComponentState, Child, At, c
 use Rattle.components.specs.Lives.{lived}
 use Rattle.components.specs.Events.{with_child, started}
 use Rattle.components.specs.Answers.{living_numbers}
-use Rattle.law_supervisor.specs.Sound.{IsSoundPart, Differ, IsOrderly}
-use Rattle.law_supervisor.specs.Keeps.{Keeps, IsTold, Owns, IsCounted}
+use Rattle.law_supervisor.specs.Sound.{IsSoundPart, AreDistinct, IsOrderly}
+use Rattle.law_supervisor.specs.Keeps.{IsSupervised, HasNoneOwed, Owns, IsCounted}
 use Rattle.law_supervisor.proofs.Lists.{either, from_places, at_places, changed_all, changed_same, changed_past}
 use Rattle.law_supervisor.proofs.Alone.{runs_in, with_these, sound_these, counted_these, same_name, sound_lived, counted_lived, launch_lived, IsNamed}
 use Rattle.law_supervisor.proofs.Alone.{mark_sound, mark_counted}
@@ -40,11 +40,11 @@ still_few : (a b n : ℕ) (y : Bool) → a ≡ b + (if y then 1 else 0) → b �
 still_few a b n true e l f = let z = f refl in omega (arith, e, z)
 still_few a b n false e l f = omega (arith, e, l)
 
-differ_begun : (n k : ℕ) (s : Step) (t : ℕ) (ps : List ComponentState) → owner n ps ≡ None → Differ (living_numbers ps) →
-    Differ (living_numbers (changed_at k (begun n s t) ps))
+differ_begun : (n k : ℕ) (s : Step) (t : ℕ) (ps : List ComponentState) → owner n ps ≡ None → AreDistinct (living_numbers ps) →
+    AreDistinct (living_numbers (changed_at k (begun n s t) ps))
 differ_begun n k s t ps o d = elim (slice_get ps k) as (λ (q : Option ComponentState). slice_get ps k ≡ q →
-    Differ (living_numbers (changed_at k (begun n s t) ps))) [
-      | None ↦ λ e. subst (λ (qs : List ComponentState). Differ (living_numbers qs)) (sym (changed_past k (begun n s t) ps e)) d
+    AreDistinct (living_numbers (changed_at k (begun n s t) ps))) [
+      | None ↦ λ e. subst (λ (qs : List ComponentState). AreDistinct (living_numbers qs)) (sym (changed_past k (begun n s t) ps e)) d
       | Some p ↦ λ e. few_differ (living_numbers (changed_at k (begun n s t) ps)) (λ m. still_few (count m (living_numbers (changed_at k (begun n s t) ps)))
           (count m (living_numbers ps)) n (n == m)
           (one_more m n k s t ps p e) (differ_few (living_numbers ps) d m) (λ y. subst (λ (x : ℕ). count x (living_numbers ps) ≡ 0) (eqb-true n m y)
@@ -66,8 +66,8 @@ lives_orderly k s n w r o i = orderly_from w (record w { parts = changed_at k (b
     (changed_same component_name k (begun n s w.moment) w.parts (λ p q. refl))
     (differ_begun n k s w.moment w.parts o i.differ)
 
-lives_keeps : (d : Device) (k : ℕ) (s : Step) (n : ℕ) (w : Components) → is_same_step step.Run s ≡ false → owner n w.parts ≡ None → Keeps d w →
-    Keeps d (record w { parts = changed_at k (begun n s w.moment) w.parts })
+lives_keeps : (d : Device) (k : ℕ) (s : Step) (n : ℕ) (w : Components) → is_same_step step.Run s ≡ false → owner n w.parts ≡ None → IsSupervised d w →
+    IsSupervised d (record w { parts = changed_at k (begun n s w.moment) w.parts })
 lives_keeps d k s n w r o i = keep_from d w (record w { parts = changed_at k (begun n s w.moment) w.parts }) i (lives_orderly k s n w r o (order_of d w i))
     (changed_all (IsCounted d) k (begun n s w.moment) w.parts (counted_of d w i) (λ p q x.
     counted_these d p (child n s w.moment p ∷ p.children) false x))
@@ -86,14 +86,14 @@ run_orderly k n w o i = orderly_from w (started k step.Run n w) i
     (event_same component_name (λ p. refl) k event.Launched (record w { parts = changed_at k (begun n step.Run w.moment) w.parts })
     (λ p q. same_name w.steady event.Launched p (at_places Coming (changed_at k (begun n step.Run w.moment) w.parts) coming k p q))
     ∙ changed_same component_name k (begun n step.Run w.moment) w.parts (λ p q. refl))
-    (subst Differ (sym (same_living (changed_at k (begun n step.Run w.moment) w.parts) (started k step.Run n w).parts
+    (subst AreDistinct (sym (same_living (changed_at k (begun n step.Run w.moment) w.parts) (started k step.Run n w).parts
     (event_children k event.Launched (record w { parts = changed_at k (begun n step.Run w.moment) w.parts }))))
     (differ_begun n k step.Run w.moment w.parts o i.differ))
   where
     coming : AllByRecursion Coming (changed_at k (begun n step.Run w.moment) w.parts)
     coming = changed_all Coming k (begun n step.Run w.moment) w.parts (from_places Coming w.parts (λ j p e. (i.sound j p e).coming)) (λ p q x. x)
 
-run_keeps : (d : Device) (k n : ℕ) (w : Components) → owner n w.parts ≡ None → IsTold w → Keeps d w → Keeps d (started k step.Run n w)
+run_keeps : (d : Device) (k n : ℕ) (w : Components) → owner n w.parts ≡ None → HasNoneOwed w → IsSupervised d w → IsSupervised d (started k step.Run n w)
 run_keeps d k n w o t i = keep_from d w (started k step.Run n w) i (run_orderly k n w o (order_of d w i))
     (event_all (IsCounted d) (mark_counted d) k event.Launched (begun n step.Run w.moment) w (counted_of d w i) (λ p q x.
     subst (λ (y : Bool). IsCounted d (lived y event.Launched (with_these (child n step.Run w.moment p ∷ p.children) false p))) (sym i.driven)
@@ -114,8 +114,9 @@ started_by P k step.Bootstrap n w f g = f step.Bootstrap refl
 pub started_orderly : (k : ℕ) (s : Step) (n : ℕ) (w : Components) → owner n w.parts ≡ None → IsOrderly w → IsOrderly (started k s n w)
 started_orderly k s n w o i = started_by (λ t. IsOrderly) k s n w (λ t r. lives_orderly k t n w r o i) (run_orderly k n w o i)
 
-pub started_keeps : (d : Device) (k : ℕ) (s : Step) (n : ℕ) (w : Components) → owner n w.parts ≡ None → IsTold w → Keeps d w → Keeps d (started k s n w)
-started_keeps d k s n w o t i = started_by (λ u. Keeps d) k s n w (λ u r. lives_keeps d k u n w r o i) (run_keeps d k n w o t i)
+pub started_keeps : (d : Device) (k : ℕ) (s : Step) (n : ℕ) (w : Components) → owner n w.parts ≡ None → HasNoneOwed w → IsSupervised d w
+    → IsSupervised d (started k s n w)
+started_keeps d k s n w o t i = started_by (λ u. IsSupervised d) k s n w (λ u r. lives_keeps d k u n w r o i) (run_keeps d k n w o t i)
 
 pub started_steady : (k : ℕ) (s : Step) (n : ℕ) (w : Components) → (started k s n w).steady ≡ w.steady
 started_steady k s n w = started_by (λ t v. v.steady ≡ w.steady) k s n w (λ t r. refl) refl

@@ -22,7 +22,7 @@ use Rattle.components.specs.Marks.{flagged, may_replan}
 use Rattle.components.specs.Changes.{Coming, counted, coming_for, fresh_part, leaving, is_replaced, with_texts, replacing, staying, coming_again, meeting}
 use Rattle.components.specs.Changes.{fate, standing, is_replacing, replanned, newcomers, placed, with_newcomers, changed_to}
 use Rattle.law_supervisor.specs.Sound.{IsSoundPart, IsOrderly, may_ask, is_waiting, is_to_begin_again}
-use Rattle.law_supervisor.specs.Keeps.{AgreesBy, IsCounted, count_of, AreCounted, IsTold}
+use Rattle.law_supervisor.specs.Keeps.{AgreesBy, IsCounted, count_of, AreCounted, HasNoneOwed}
 use Rattle.law_supervisor.proofs.Lists.{either, clash, second_true, none_of, from_places, mapped_all}
 use Rattle.law_supervisor.proofs.Reached.{Marks, firsts_flagged, restarted_all, same_may}
 use Rattle.law_supervisor.proofs.Alone.{IsCountedNext, bare_of, mark_sound, mark_counted}
@@ -77,7 +77,7 @@ gone_bare p k g =
 abbrev pub Before : ComponentState → Type 0
 Before p = IsSoundPart p × (p.owed ≡ None)
 
-pub before_of : (w : Components) → IsOrderly w → IsTold w → AllByRecursion Before w.parts
+pub before_of : (w : Components) → IsOrderly w → HasNoneOwed w → AllByRecursion Before w.parts
 before_of w i t = from_places Before w.parts (λ k p e. (i.sound k p e, told_each w.parts t k p e))
 
 -- none waits
@@ -388,7 +388,7 @@ pub changed_sound : (items : List Fitted) (counts : List ℕ) (steady : Bool) (w
 changed_sound items counts steady w c i = changed_all_by IsFew IsSoundPart IsSoundPart mark_sound (λ n x. again_sound n [] x) leaving_sound
     (λ n p k x e. meeting_sound n p k x e) items counts steady w c (sound_of w i.sound)
 
-pub changed_counted : (d : Device) (items : List Fitted) (counts : List ℕ) (steady : Bool) (w : Components) → AreCounted d items counts → IsTold w →
+pub changed_counted : (d : Device) (items : List Fitted) (counts : List ℕ) (steady : Bool) (w : Components) → AreCounted d items counts → HasNoneOwed w →
     IsOrderly w → AllByRecursion (IsCounted d) (changed_to items counts steady w).parts
 changed_counted d items counts steady w c t i = changed_all_by (IsComing d) Before (IsCounted d) (mark_counted d) (λ n x. again_counted d n [] x)
     (leaving_counted d) (λ n p b x e. meeting_counted d n p b x e) items counts steady w (λ k f e. (c k f e).0)

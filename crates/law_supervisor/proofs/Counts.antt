@@ -8,7 +8,7 @@ use Rattle.std.proofs.lemmas.List.Elements.{All-from_recursion, recursion_from_A
 use Rattle.nuc_base.specs.declared.kinds.Step.{Step}
 use Rattle.components.specs.Components.{ComponentState, Child, changed_at, child_of, owner, owner_from}
 use Rattle.components.specs.Answers.{child_numbers, living_numbers}
-use Rattle.law_supervisor.specs.Sound.{Differ}
+use Rattle.law_supervisor.specs.Sound.{AreDistinct}
 use Rattle.law_supervisor.proofs.Lists.{either, clash, some_same, no_some}
 use Rattle.law_supervisor.proofs.Alone.{but}
 
@@ -36,7 +36,7 @@ count_none n (m ∷ ms) e = elim (m == n) as (λ (b : Bool). (m == n) ≡ b → 
   | false ↦ λ q h. ((λ i. clash (m == n) (eq-eqb m n i) q), count_none n ms (omega (arith, h)))
 ] refl e
 
-pub differ_few : (ns : List ℕ) → Differ ns → (n : ℕ) → count n ns ≤ 1
+pub differ_few : (ns : List ℕ) → AreDistinct ns → (n : ℕ) → count n ns ≤ 1
 differ_few [] d n = omega arith
 differ_few (m ∷ ms) d n = elim (either (m == n)) [
   | inl e ↦ (let z = none_count n ms (subst (λ (x : ℕ). AllByRecursion (λ (y : ℕ). y ≢ x) ms) (eqb-true m n e) (recursion_from_All (λ (y : ℕ). y ≢ m) ms d.0))
@@ -48,7 +48,7 @@ rest_none : (b : Bool) (n : ℕ) → b ≡ true → (if b then 1 else 0) + n ≤
 rest_none true n e l = omega (arith, l)
 rest_none false n e l = absurd (cc)
 
-pub few_differ : (ns : List ℕ) → ((n : ℕ) → count n ns ≤ 1) → Differ ns
+pub few_differ : (ns : List ℕ) → ((n : ℕ) → count n ns ≤ 1) → AreDistinct ns
 few_differ [] f = tt
 few_differ (m ∷ ms) f = (
   All-from_recursion (λ (y : ℕ). y ≢ m) ms (count_none m ms (rest_none (m == m) (count m ms) (eq-eqb m m refl) (f m))),

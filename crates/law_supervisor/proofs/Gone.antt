@@ -18,8 +18,8 @@ use Rattle.components.specs.Components.{Components, ComponentState, Child, At, c
 use Rattle.components.specs.Lives.{lived_at}
 use Rattle.components.specs.Events.{gone_by, ended, killed, kill_event, kill_event_at, is_late_child}
 use Rattle.components.specs.Answers.{living_numbers, child_numbers}
-use Rattle.law_supervisor.specs.Sound.{IsSoundPart, is_run, Differ, IsOrderly}
-use Rattle.law_supervisor.specs.Keeps.{Keeps, IsTold, Owns}
+use Rattle.law_supervisor.specs.Sound.{IsSoundPart, is_run, AreDistinct, IsOrderly}
+use Rattle.law_supervisor.specs.Keeps.{IsSupervised, HasNoneOwed, Owns}
 use Rattle.law_supervisor.proofs.Lists.{either, clash, some_same, no_some}
 use Rattle.law_supervisor.proofs.Made.{MayBefall, begins, ends_fairly}
 use Rattle.law_supervisor.proofs.Counts.{count, differ_few, count_changed, count_but_self, count_but_other, same_living, one_owns, owns_one, none_owns}
@@ -60,12 +60,12 @@ run_there : (n : ℕ) (s : Step) (cs : List Child) → is_same_step s step.Run �
 run_there n s [] r h = absurd h
 run_there n s (c ∷ cs) r h = elim (c.number == n) as (λ (b : Bool). IsSomeAnd (if b then Some c else child_of n cs) (λ d. d.of ≡ s) →
     list_any is_run (c ∷ cs) ≡ true) [
-      | true ↦ λ y. or_left (is_run c) (list_any is_run cs) (subst (λ (t : Step). is_same_step step.Run t ≡ true) (sym y) (turned s r))
+      | true ↦ λ y. or_left (is_run c) (list_any is_run cs) (subst (λ (t : Step). is_same_step step.Run t ≡ true) (sym y) (swapped s r))
       | false ↦ λ y. or_right (is_run c) (list_any is_run cs) (run_there n s cs r y)
     ] h
   where
-    turned : (t : Step) → is_same_step t step.Run ≡ true → is_same_step step.Run t ≡ true
-    turned t e = grind (arith, e)
+    swapped : (t : Step) → is_same_step t step.Run ≡ true → is_same_step step.Run t ≡ true
+    swapped t e = grind (arith, e)
 
 -- a run child ends while no run is begun
 end_fair : (n : ℕ) (s : Step) (x : Exit) (p : ComponentState) → IsSoundPart p → IsSomeAnd (child_of n p.children) (λ c. c.of ≡ s) →
@@ -100,8 +100,8 @@ ended_by P n e w i f = elim (owner n w.parts) as (λ (o : Option (ℕ × Step)).
 pub ended_orderly : (n : ℕ) (e : Exit) (w : Components) → IsOrderly w → IsOrderly (ended n e w)
 ended_orderly n e w i = ended_by IsOrderly n e w i (λ o q. gone_by_orderly (Some (event.Ended o.1 e)) o.0 o.1 n w i (end_goes n e w o q))
 
-pub ended_keeps : (d : Device) (n : ℕ) (e : Exit) (w : Components) → Owns w n → IsTold w → Keeps d w → Keeps d (ended n e w)
-ended_keeps d n e w y t i = ended_by (Keeps d) n e w i (λ o q. gone_by_keeps d (Some (event.Ended o.1 e)) o.0 o.1 n w t i (end_goes n e w o q))
+pub ended_keeps : (d : Device) (n : ℕ) (e : Exit) (w : Components) → Owns w n → HasNoneOwed w → IsSupervised d w → IsSupervised d (ended n e w)
+ended_keeps d n e w y t i = ended_by (IsSupervised d) n e w i (λ o q. gone_by_keeps d (Some (event.Ended o.1 e)) o.0 o.1 n w t i (end_goes n e w o q))
 
 -- ---- a kill
 
@@ -136,8 +136,8 @@ killed_by P n w i f = elim (owner n w.parts) as (λ (o : Option (ℕ × Step)). 
 pub killed_orderly : (n : ℕ) (w : Components) → IsOrderly w → IsOrderly (killed n w)
 killed_orderly n w i = killed_by IsOrderly n w i (λ o q. gone_by_orderly (kill_event_at o.0 o.1 n w) o.0 o.1 n w i (kill_goes n w o q))
 
-pub killed_keeps : (d : Device) (n : ℕ) (w : Components) → IsTold w → Keeps d w → Keeps d (killed n w)
-killed_keeps d n w t i = killed_by (Keeps d) n w i (λ o q. gone_by_keeps d (kill_event_at o.0 o.1 n w) o.0 o.1 n w t i (kill_goes n w o q))
+pub killed_keeps : (d : Device) (n : ℕ) (w : Components) → HasNoneOwed w → IsSupervised d w → IsSupervised d (killed n w)
+killed_keeps d n w t i = killed_by (IsSupervised d) n w i (λ o q. gone_by_keeps d (kill_event_at o.0 o.1 n w) o.0 o.1 n w t i (kill_goes n w o q))
 
 -- ---- neither changes the mode
 
@@ -162,7 +162,7 @@ record Takes (n : ℕ) (ps qs : List ComponentState) : Type 0 where
   self : count n (living_numbers qs) ≡ 0
   others : (m : ℕ) → (n == m) ≡ false → count m (living_numbers qs) ≡ count m (living_numbers ps)
 
-gone_takes : (o : Option LifeEvent) (k : ℕ) (s : Step) (n : ℕ) (w : Components) → Differ (living_numbers w.parts) → Owner n w.parts k s →
+gone_takes : (o : Option LifeEvent) (k : ℕ) (s : Step) (n : ℕ) (w : Components) → AreDistinct (living_numbers w.parts) → Owner n w.parts k s →
     Takes n w.parts (gone_by o k s n w).parts
 gone_takes o k s n w f h =
     let l = gone_living o k s n w in

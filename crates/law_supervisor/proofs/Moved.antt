@@ -11,9 +11,9 @@ use Rattle.device.specs.Devices.{Device}
 use Rattle.components.specs.Components.{Components, ComponentState, At, is_to_stop, stands_up, owner}
 use Rattle.components.specs.Turns.{may_begin, may_retry, may_stop, is_met, serves_softly}
 use Rattle.components.specs.Lives.{lived_at}
-use Rattle.components.specs.Acts.{Move, MayMove, Quietly, spares}
+use Rattle.components.specs.Acts.{Move, MayMove, MovesInOrder, spares}
 use Rattle.law_supervisor.specs.Sound.{IsSoundPart, IsOrderly}
-use Rattle.law_supervisor.specs.Keeps.{Keeps}
+use Rattle.law_supervisor.specs.Keeps.{IsSupervised}
 use Rattle.law_supervisor.proofs.Lists.{not_so}
 use Rattle.law_supervisor.proofs.Alone.{begins_alone}
 use Rattle.law_supervisor.proofs.Counts.{same_owner}
@@ -41,15 +41,16 @@ moves_befall w k event.Launched m p q s = absurd m
 moves_befall w k event.Skipped m p q s = absurd m
 moves_befall w k (event.Ended t x) m p q s = absurd m
 
-pub moved_orderly : (w v : Components) (ms : List Move) → Quietly w ms v → IsOrderly w → IsOrderly v
+pub moved_orderly : (w v : Components) (ms : List Move) → MovesInOrder w ms v → IsOrderly w → IsOrderly v
 moved_orderly w v [] q i = subst IsOrderly (sym q) i
 moved_orderly w v (m ∷ ms) q i = moved_orderly (lived_at m.who m.what w) v ms q.2 (plain_orderly m.who m.what w i (moves_befall w m.who m.what q.1))
 
-pub moved_keeps : (d : Device) (w v : Components) (ms : List Move) → Quietly w ms v → Keeps d w → Keeps d v
-moved_keeps d w v [] q i = subst (Keeps d) (sym q) i
-moved_keeps d w v (m ∷ ms) q i = moved_keeps d (lived_at m.who m.what w) v ms q.2 (plain_keeps d m.who m.what w q.0.told i (moves_befall w m.who m.what q.1))
+pub moved_keeps : (d : Device) (w v : Components) (ms : List Move) → MovesInOrder w ms v → IsSupervised d w → IsSupervised d v
+moved_keeps d w v [] q i = subst (IsSupervised d) (sym q) i
+moved_keeps d w v (m ∷ ms) q i =
+    moved_keeps d (lived_at m.who m.what w) v ms q.2 (plain_keeps d m.who m.what w q.0.owes_none i (moves_befall w m.who m.what q.1))
 
-pub moved_owner : (n : ℕ) (w v : Components) (ms : List Move) → Quietly w ms v → owner n v.parts ≡ owner n w.parts
+pub moved_owner : (n : ℕ) (w v : Components) (ms : List Move) → MovesInOrder w ms v → owner n v.parts ≡ owner n w.parts
 moved_owner n w v [] q = subst (λ (u : Components). owner n u.parts ≡ owner n w.parts) (sym q) refl
 moved_owner n w v (m ∷ ms) q = moved_owner n (lived_at m.who m.what w) v ms q.2 ∙ same_owner n w.parts (lived_at m.who m.what w).parts
     (event_children m.who m.what w)

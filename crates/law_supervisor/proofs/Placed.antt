@@ -17,8 +17,8 @@ use Rattle.components.specs.Turns.{owes}
 use Rattle.components.specs.Answers.{living_numbers, child_numbers}
 use Rattle.components.specs.Changes.{Coming, counted, coming_for, fresh_part, leaving, is_replaced, with_texts, staying, coming_again, meeting, fate}
 use Rattle.components.specs.Changes.{standing, is_replacing, replanned, newcomers, placed, with_newcomers, changed_to}
-use Rattle.law_supervisor.specs.Sound.{HaveOwnNames, IsOrderly, IsSoundPart, Differ}
-use Rattle.law_supervisor.specs.Keeps.{AreCounted, IsCounted, ItemsDiffer, IsTold, Keeps, Owns}
+use Rattle.law_supervisor.specs.Sound.{HaveOwnNames, IsOrderly, IsSoundPart, AreDistinct}
+use Rattle.law_supervisor.specs.Keeps.{AreCounted, IsCounted, ItemsDiffer, HasNoneOwed, IsSupervised, Owns}
 use Rattle.law_supervisor.proofs.Lists.{clash, some_same, no_some, from_places, at_places, mapped_all, mapped_same}
 use Rattle.law_supervisor.proofs.Reached.{firsts_flagged, restarted_all, restarted_same, same_may}
 use Rattle.law_supervisor.proofs.Counts.{count, same_living, one_owns, owns_one}
@@ -140,7 +140,7 @@ pub owed_any : (ps : List ComponentState) → AllByRecursion (λ p. p.owed ≡ N
 owed_any [] a = refl
 owed_any (p ∷ ps) a = let x : owes p ≡ false = rw a.0 refl in rw x (owed_any ps a.1)
 
-pub changed_told : (items : List Fitted) (counts : List ℕ) (steady : Bool) (w : Components) → IsTold w → IsTold (changed_to items counts steady w)
+pub changed_told : (items : List Fitted) (counts : List ℕ) (steady : Bool) (w : Components) → HasNoneOwed w → HasNoneOwed (changed_to items counts steady w)
 changed_told items counts steady w t =
     let ns = counted 0 counts items in
     owed_any (changed_to items counts steady w).parts (newcomers_all (λ p. p.owed ≡ None) (newcomers ns (standing w.parts))
@@ -304,12 +304,12 @@ pub changed_orderly : (items : List Fitted) (counts : List ℕ) (steady : Bool) 
     IsOrderly (changed_to items counts steady w)
 changed_orderly items counts steady w c n i = record {
   sound = at_places IsSoundPart (changed_to items counts steady w).parts (changed_sound items counts steady w c i);
-  differ = subst Differ (sym (changed_living items counts steady w)) i.differ;
+  differ = subst AreDistinct (sym (changed_living items counts steady w)) i.differ;
   names = changed_names items counts steady w n i.names;
 }
 
 pub changed_keeps : (d : Device) (items : List Fitted) (counts : List ℕ) (w : Components) → IfSome d.pending (λ q. length q.failures ≡ 128) →
-    AreCounted d items counts → ItemsDiffer items → IsTold w → IsOrderly w → Keeps d (changed_to items counts false w)
+    AreCounted d items counts → ItemsDiffer items → HasNoneOwed w → IsOrderly w → IsSupervised d (changed_to items counts false w)
 changed_keeps d items counts w m a n t i =
     let o = changed_orderly items counts false w (λ k f e. (a k f e).1) n i in
     record {

@@ -16,7 +16,7 @@ use Rattle.records.specs.Stored.{Item}
 use Rattle.records.specs.declared.record.Origin.{Origin}
 use Rattle.device.specs.Devices.{Device, Pending}
 use Rattle.device.specs.Lawful.{running, failing_place, place, place_from}
-use Rattle.device.specs.Plans.{Rise, item_name}
+use Rattle.device.specs.Plans.{AreRising, item_name}
 use Rattle.components.specs.Fitted.{Fitted, name_of}
 use Rattle.components.specs.Made.{AreFitted}
 use Rattle.law_supervisor.specs.Keeps.{AreCounted, ItemsDiffer}
@@ -30,7 +30,7 @@ not_below n e = clash (bytes_eq n n) ((bytes_eq-Decides n n).1 refl) (sym (is_eq
 named : (items : List Item) (k : ℕ) (i : Item) → slice_get items k ≡ Some i → slice_get (map item_name items) k ≡ Some (item_name i)
 named items k i e = slice_get-map item_name items k ∙ ap (option_map item_name) e
 
-rise_once : (items : List Item) → Rise (map item_name items) → (j k : ℕ) (a b : Item) → slice_get items j ≡ Some a → slice_get items k ≡ Some b →
+rise_once : (items : List Item) → AreRising (map item_name items) → (j k : ℕ) (a b : Item) → slice_get items j ≡ Some a → slice_get items k ≡ Some b →
     item_name a ≡ item_name b → j < k → ⊥
 rise_once items r j k a b x y n l =
     let m = Less-from_sorted (slice_cmp nat_cmp) (map item_name items) j k [] r l (slice_get_within (map item_name items) k (item_name b) (named items k b y))
@@ -40,7 +40,7 @@ rise_once items r j k a b x y n l =
     not_below (item_name b) (subst (λ (c : List ℕ). slice_cmp nat_cmp c (item_name b) ≡ Less) (p ∙ n)
     (subst (λ (c : List ℕ). slice_cmp nat_cmp (get_or (map item_name items) j []) c ≡ Less) q m))
 
-same_place : (items : List Item) → Rise (map item_name items) → (j k : ℕ) (a b : Item) → slice_get items j ≡ Some a → slice_get items k ≡ Some b →
+same_place : (items : List Item) → AreRising (map item_name items) → (j k : ℕ) (a b : Item) → slice_get items j ≡ Some a → slice_get items k ≡ Some b →
     item_name a ≡ item_name b → j ≡ k
 same_place items r j k a b x y n = elim (three j k) [
   | inl l ↦ absurd (rise_once items r j k a b x y n l)
@@ -82,11 +82,11 @@ item_at : (o : Origin) (items : List Item) (fitted : List Fitted) → AreFitted 
     slice_get items k ≡ Some f.item
 item_at o items fitted a k f e = let x = a.each k f e in x.is_scope.there ∙ ap (λ (i : Item). Some i) (sym x.item)
 
-pub ready_differ : (o : Origin) (items : List Item) (fitted : List Fitted) → Rise (map item_name items) → AreFitted o items fitted → ItemsDiffer fitted
+pub ready_differ : (o : Origin) (items : List Item) (fitted : List Fitted) → AreRising (map item_name items) → AreFitted o items fitted → ItemsDiffer fitted
 ready_differ o items fitted r a = λ j k f g x y n. same_place items r j k f.item g.item (item_at o items fitted a j f x) (item_at o items fitted a k g y) n
 
 pub ready_counted : (o : Origin) (d : Device) (q : Pending) (items : List Item) (fitted : List Fitted) → d.pending ≡ Some q → running d.set q ≡ Some items →
-    Rise (map item_name items)
+    AreRising (map item_name items)
     → AreFitted o items fitted → length items ≤ length q.failures → All (λ (n : ℕ). n < 3) q.failures → AreCounted d fitted q.failures
 ready_counted o d q items fitted p s r a l u = λ k f e.
     let i = item_at o items fitted a k f e in

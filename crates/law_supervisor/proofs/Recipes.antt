@@ -4,9 +4,9 @@ use Rattle.std.specs.Option.{IfSome}
 use Rattle.nuc_base.specs.declared.kinds.Step.{Step}
 use Rattle.nuc_base.specs.declared.platform.Platform.{Platform}
 use Rattle.lifecycle.specs.declared.kinds.LifeEvent.{LifeEvent}
-use Rattle.components.specs.Acts.{Move, Quietly}
+use Rattle.components.specs.Acts.{Move, MovesInOrder}
 use Rattle.components.specs.Components.{Components, ComponentState, Child, child_gone, without_child}
-use Rattle.components.specs.Events.{gone_by, kill_event_at, killed, told_at}
+use Rattle.components.specs.Events.{gone_by, kill_event_at, killed, heard_at}
 use Rattle.lifecycle.specs.declared.kinds.StepSet.{StepSet}
 use Rattle.components.specs.Fitted.{Fitted}
 use Rattle.components.specs.Lives.{lived, lived_at}
@@ -31,7 +31,7 @@ module _ (platform : Platform) where
   lived_at_runs : (k : ℕ) (e : LifeEvent) (w : Components) → AllRunFor platform w.parts → AllRunFor platform (lived_at k e w).parts
   lived_at_runs k e w a = plain_all (RunsFor platform) mark_runs k e w a (λ p q h. lived_runs w.steady e p h)
 
-  pub moved_runs : (w v : Components) (ms : List Move) → Quietly w ms v → AllRunFor platform w.parts → AllRunFor platform v.parts
+  pub moved_runs : (w v : Components) (ms : List Move) → MovesInOrder w ms v → AllRunFor platform w.parts → AllRunFor platform v.parts
   moved_runs w v [] q a = subst (λ (u : Components). AllRunFor platform u.parts) (sym q) a
   moved_runs w v (m ∷ ms) q a = moved_runs (lived_at m.who m.what w) v ms q.2 (lived_at_runs m.who m.what w a)
 
@@ -45,5 +45,5 @@ module _ (platform : Platform) where
   pub killed_runs : (n : ℕ) (w : Components) → AllRunFor platform w.parts → AllRunFor platform (killed n w).parts
   killed_runs n w a = killed_by (λ v. AllRunFor platform v.parts) n w a (λ o q. gone_by_runs (kill_event_at o.0 o.1 n w) o.0 o.1 n w a)
 
-  pub told_runs : (k : ℕ) (w : Components) → AllRunFor platform w.parts → AllRunFor platform (told_at k w).parts
+  pub told_runs : (k : ℕ) (w : Components) → AllRunFor platform w.parts → AllRunFor platform (heard_at k w).parts
   told_runs k w a = changed_all (RunsFor platform) k (λ p. record p { owed = None }) w.parts a (λ p q h. h)

@@ -11,7 +11,7 @@ use Rattle.components.specs.Components.{Components, ComponentState, is_gone, own
 use Rattle.components.specs.Answers.{living_numbers}
 use Rattle.components.specs.Turns.{owes}
 use Rattle.components.specs.Changes.{forgetting, steadied}
-use Rattle.law_supervisor.specs.Keeps.{IsTold, Keeps}
+use Rattle.law_supervisor.specs.Keeps.{HasNoneOwed, IsSupervised}
 use Rattle.law_supervisor.specs.Sound.{IsOrderly, IsSoundPart, is_to_begin_again}
 use Rattle.law_supervisor.proofs.Lists.{mapped_all, mapped_same, any_same}
 use Rattle.law_supervisor.proofs.Counts.{same_owner, same_living}
@@ -61,7 +61,7 @@ living_steadied w = same_living w.parts (steadied w).parts (children_at w)
 pub owner_steadied : (n : ℕ) (w : Components) → owner n (steadied w).parts ≡ owner n w.parts
 owner_steadied n w = same_owner n w.parts (steadied w).parts (children_at w)
 
-pub told_steadied : (w : Components) → IsTold w → IsTold (steadied w)
+pub told_steadied : (w : Components) → HasNoneOwed w → HasNoneOwed (steadied w)
 told_steadied w t = owes_steadied w ∙ t
 
 pub steadied_orderly : (w : Components) → IsOrderly w → IsOrderly (steadied w)
@@ -70,5 +70,5 @@ steadied_orderly w i = orderly_same w (steadied w) i (mapped_all IsSoundPart IsS
     (children_at w)
 
 -- behind a deployment in which it is kept
-pub closed_orderly : (d : Device) (w : Components) → Keeps d w → IsOrderly (steadied w)
+pub closed_orderly : (d : Device) (w : Components) → IsSupervised d w → IsOrderly (steadied w)
 closed_orderly d w k = steadied_orderly w (order_of d w k)

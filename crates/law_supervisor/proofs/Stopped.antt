@@ -2,7 +2,7 @@
 use Rattle.std.proofs.Common.{◌≡◌, ℕ, map, None}
 use Rattle.components.specs.Components.{Components, ComponentState, component_name, owner}
 use Rattle.components.specs.Changes.{leaving, all_stopped}
-use Rattle.law_supervisor.specs.Keeps.{IsTold}
+use Rattle.law_supervisor.specs.Keeps.{HasNoneOwed}
 use Rattle.law_supervisor.specs.Sound.{IsOrderly, IsSoundPart}
 use Rattle.law_supervisor.proofs.Lists.{from_places, mapped_all, mapped_same}
 use Rattle.law_supervisor.proofs.Counts.{same_owner}
@@ -21,6 +21,6 @@ stopped_orderly w i = orderly_same w (all_stopped w) i (mapped_all IsSoundPart I
 pub stopped_owner : (n : ℕ) (w : Components) → owner n (all_stopped w).parts ≡ owner n w.parts
 stopped_owner n w = same_owner n w.parts (all_stopped w).parts (stopped_children w)
 
-pub stopped_told : (w : Components) → IsTold w → IsTold (all_stopped w)
+pub stopped_told : (w : Components) → HasNoneOwed w → HasNoneOwed (all_stopped w)
 stopped_told w t = owed_any (all_stopped w).parts (mapped_all (λ p. p.owed ≡ None) (λ p. p.owed ≡ None) leaving (λ p e. (same_leaving p).owed e) w.parts
     (from_places (λ p. p.owed ≡ None) w.parts (told_each w.parts t)))

@@ -14,8 +14,8 @@ use Rattle.components.specs.Lives.{lived, lived_at, drops_at}
 use Rattle.components.specs.Events.{gone_by, is_orphan_at}
 use Rattle.components.specs.Turns.{owes}
 use Rattle.components.specs.Answers.{living_numbers}
-use Rattle.law_supervisor.specs.Sound.{IsSoundPart, AreSound, Differ, HaveOwnNames, IsOrderly}
-use Rattle.law_supervisor.specs.Keeps.{IsCounted, Keeps, IsTold}
+use Rattle.law_supervisor.specs.Sound.{IsSoundPart, AreSound, AreDistinct, HaveOwnNames, IsOrderly}
+use Rattle.law_supervisor.specs.Keeps.{IsCounted, IsSupervised, HasNoneOwed}
 use Rattle.law_supervisor.proofs.Lists.{none_of, some_same, no_some, from_places, at_places, changed_all, changed_same, changed_here, changed_past, twice}
 use Rattle.law_supervisor.proofs.Lists.{changed_nothing, any_same}
 use Rattle.law_supervisor.proofs.Reached.{Marks, firsts_at, restarted_all, restarted_same, may_replan_of}
@@ -90,22 +90,22 @@ pub sound_of : (w : Components) → AreSound w.parts → AllByRecursion IsSoundP
 sound_of w s = from_places IsSoundPart w.parts s
 
 pub orderly_from : (w v : Components) → IsOrderly w → AllByRecursion IsSoundPart v.parts → map component_name v.parts ≡ map component_name w.parts →
-    Differ (living_numbers v.parts) → IsOrderly v
+    AreDistinct (living_numbers v.parts) → IsOrderly v
 orderly_from w v i a n f = record { sound = at_places IsSoundPart v.parts a; differ = f; names = same_names w.parts v.parts n i.names }
 
 -- where all children stay
 pub orderly_same : (w v : Components) → IsOrderly w → AllByRecursion IsSoundPart v.parts → map component_name v.parts ≡ map component_name w.parts →
     map (λ (p : ComponentState). p.children) v.parts ≡ map (λ (p : ComponentState). p.children) w.parts → IsOrderly v
-orderly_same w v i a n c = orderly_from w v i a n (subst Differ (sym (same_living w.parts v.parts c)) i.differ)
+orderly_same w v i a n c = orderly_from w v i a n (subst AreDistinct (sym (same_living w.parts v.parts c)) i.differ)
 
-pub order_of : (d : Device) (w : Components) → Keeps d w → IsOrderly w
+pub order_of : (d : Device) (w : Components) → IsSupervised d w → IsOrderly w
 order_of d w k = record { sound = k.sound; differ = k.differ; names = k.names }
 
-pub counted_of : (d : Device) (w : Components) → Keeps d w → AllByRecursion (IsCounted d) w.parts
+pub counted_of : (d : Device) (w : Components) → IsSupervised d w → AllByRecursion (IsCounted d) w.parts
 counted_of d w k = from_places (IsCounted d) w.parts k.counted
 
 -- what is orderly, and where each count is that of the device
-pub keep_from : (d : Device) (w v : Components) → Keeps d w → IsOrderly v → AllByRecursion (IsCounted d) v.parts → v.steady ≡ w.steady → Keeps d v
+pub keep_from : (d : Device) (w v : Components) → IsSupervised d w → IsOrderly v → AllByRecursion (IsCounted d) v.parts → v.steady ≡ w.steady → IsSupervised d v
 keep_from d w v k i a s = record {
   counted = at_places (IsCounted d) v.parts a;
   sound = i.sound;
@@ -136,7 +136,7 @@ plain_orderly k e w i f = orderly_same w (lived_at k e w) i
     (event_names k e w (sound_of w i.sound))
     (event_children k e w)
 
-pub plain_keeps : (d : Device) (k : ℕ) (e : LifeEvent) (w : Components) → IsTold w → Keeps d w → BefallsAt k e w → Keeps d (lived_at k e w)
+pub plain_keeps : (d : Device) (k : ℕ) (e : LifeEvent) (w : Components) → HasNoneOwed w → IsSupervised d w → BefallsAt k e w → IsSupervised d (lived_at k e w)
 plain_keeps d k e w t i f = keep_from d w (lived_at k e w) i (plain_orderly k e w (order_of d w i) f)
     (plain_all (IsCounted d) (mark_counted d) k e w (counted_of d w i) (λ p q x.
     let s = i.sound k p q in
@@ -146,7 +146,7 @@ plain_keeps d k e w t i f = keep_from d w (lived_at k e w) i (plain_orderly k e 
 
 -- ---- a child that is gone
 
-differ_gone : (k n : ℕ) (ps : List ComponentState) → Differ (living_numbers ps) → Differ (living_numbers (changed_at k (without_child n) ps))
+differ_gone : (k n : ℕ) (ps : List ComponentState) → AreDistinct (living_numbers ps) → AreDistinct (living_numbers (changed_at k (without_child n) ps))
 differ_gone k n ps d = few_differ (living_numbers (changed_at k (without_child n) ps)) (λ m. fewer m k ps (differ_few (living_numbers ps) d m))
   where
     fewer : (m k : ℕ) (ps : List ComponentState) → count m (living_numbers ps) ≤ 1 → count m (living_numbers (changed_at k (without_child n) ps)) ≤ 1
@@ -163,12 +163,12 @@ child_gone_orderly k n w i = orderly_from w (child_gone k n w) i
     (changed_same component_name k (without_child n) w.parts (λ p q. refl))
     (differ_gone k n w.parts i.differ)
 
-child_gone_keeps : (d : Device) (k n : ℕ) (w : Components) → Keeps d w → Keeps d (child_gone k n w)
+child_gone_keeps : (d : Device) (k n : ℕ) (w : Components) → IsSupervised d w → IsSupervised d (child_gone k n w)
 child_gone_keeps d k n w i = keep_from d w (child_gone k n w) i (child_gone_orderly k n w (order_of d w i))
     (changed_all (IsCounted d) k (without_child n) w.parts (counted_of d w i) (λ p q x. counted_these d p (but n p.children) p.handed x))
     refl
 
-child_gone_told : (k n : ℕ) (w : Components) → IsTold w → IsTold (child_gone k n w)
+child_gone_told : (k n : ℕ) (w : Components) → HasNoneOwed w → HasNoneOwed (child_gone k n w)
 child_gone_told k n w t = any_same owes w.parts (child_gone k n w).parts (changed_same owes k (without_child n) w.parts (λ p q. refl)) ∙ t
 
 -- what comes with the end of the child may befall its component without it
@@ -195,7 +195,7 @@ pub gone_by_orderly : (o : Option LifeEvent) (k : ℕ) (s : Step) (n : ℕ) (w :
 gone_by_orderly o k s n w i f = gone_by_each IsOrderly o k s n w (child_gone_orderly k n w i)
     (λ e y. plain_orderly k e (child_gone k n w) (child_gone_orderly k n w i) (gone_befalls o k s n e w i y f))
 
-pub gone_by_keeps : (d : Device) (o : Option LifeEvent) (k : ℕ) (s : Step) (n : ℕ) (w : Components) → IsTold w → Keeps d w → GoesBy o k s n w →
-    Keeps d (gone_by o k s n w)
-gone_by_keeps d o k s n w t i f = gone_by_each (Keeps d) o k s n w (child_gone_keeps d k n w i)
+pub gone_by_keeps : (d : Device) (o : Option LifeEvent) (k : ℕ) (s : Step) (n : ℕ) (w : Components) → HasNoneOwed w → IsSupervised d w → GoesBy o k s n w →
+    IsSupervised d (gone_by o k s n w)
+gone_by_keeps d o k s n w t i f = gone_by_each (IsSupervised d) o k s n w (child_gone_keeps d k n w i)
     (λ e y. plain_keeps d k e (child_gone k n w) (child_gone_told k n w t) (child_gone_keeps d k n w i) (gone_befalls o k s n e w (order_of d w i) y f))

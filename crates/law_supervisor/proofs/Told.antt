@@ -16,10 +16,10 @@ use Rattle.device.specs.Lawful.{applied, counted, count_failure, failing_place, 
 use Rattle.components.specs.Fitted.{Fitted, name_of}
 use Rattle.components.specs.Components.{Components, ComponentState, At, changed_at, component_name, place_of, is_spared, is_again, is_gone, is_broken}
 use Rattle.components.specs.Components.{under_way, owner, stops_for_good}
-use Rattle.components.specs.Events.{told_at}
+use Rattle.components.specs.Events.{heard_at}
 use Rattle.components.specs.Acts.{OwesAt}
 use Rattle.law_supervisor.specs.Sound.{IsSoundPart, IsOrderly, is_waiting, is_to_begin_again}
-use Rattle.law_supervisor.specs.Keeps.{Keeps, IsCounted, AgreesBy, count_of}
+use Rattle.law_supervisor.specs.Keeps.{IsSupervised, IsCounted, AgreesBy, count_of}
 use Rattle.law_supervisor.proofs.Lists.{either, clash, second_true, none_of, some_same, no_some, changed_all, changed_same}
 use Rattle.law_supervisor.proofs.Made.{Agrees}
 use Rattle.law_supervisor.proofs.Moved.{at_of}
@@ -173,8 +173,8 @@ told_sound p k = record {
       k.coming;
 }
 
-pub told_orderly : (k : ℕ) (w : Components) → IsOrderly w → IsOrderly (told_at k w)
-told_orderly k w i = orderly_same w (told_at k w) i (changed_all IsSoundPart k told w.parts (sound_of w i.sound) (λ p q x. told_sound p x))
+pub told_orderly : (k : ℕ) (w : Components) → IsOrderly w → IsOrderly (heard_at k w)
+told_orderly k w i = orderly_same w (heard_at k w) i (changed_all IsSoundPart k told w.parts (sound_of w i.sound) (λ p q x. told_sound p x))
     (changed_same component_name k told w.parts (λ p q. refl))
     (changed_same (λ p. p.children) k told w.parts (λ p q. refl))
 
@@ -221,8 +221,8 @@ module _ (d : Device) (n : List ℕ) (s : Step) (x : Exit) where
       coming None h = tt
       coming (Some z) h = (h.0, count_stays d n (name_of z.0) s x (λ y. ne (sym h.0 ∙ y)) ∙ h.1)
 
-pub told_keeps : (d : Device) (k : ℕ) (n : List ℕ) (s : Step) (e : Exit) (b : Bool) (w : Components) → Keeps d w → OwesAt w k s e b →
-    At k (λ p. component_name p ≡ n) w.parts → Keeps (applied d (StepFailed n s e)) (told_at k w)
+pub told_keeps : (d : Device) (k : ℕ) (n : List ℕ) (s : Step) (e : Exit) (b : Bool) (w : Components) → IsSupervised d w → OwesAt w k s e b →
+    At k (λ p. component_name p ≡ n) w.parts → IsSupervised (applied d (StepFailed n s e)) (heard_at k w)
 told_keeps d k n s e b w i o a = record {
   counted = λ j r h. by_which j r (which k w.parts j r h);
   sound = orderly.sound;
@@ -232,7 +232,7 @@ told_keeps d k n s e b w i o a = record {
   counts = still_many d n s e i.counts;
 }
   where
-    orderly : IsOrderly (told_at k w)
+    orderly : IsOrderly (heard_at k w)
     orderly = told_orderly k w (order_of d w i)
 
     owed : (p : ComponentState) → slice_get w.parts k ≡ Some p → p.owed ≡ Some (s, e)
@@ -252,5 +252,5 @@ told_keeps d k n s e b w i o a = record {
     by_which j r (other ne g) = other_counted d n s e r (i.counted j r g) (λ y. let t = there (slice_get w.parts k) a refl in
         ne (i.names j k r t.0 g t.1 (y ∙ sym (its_name t.0 t.1))))
 
-pub told_owner : (n k : ℕ) (w : Components) → owner n (told_at k w).parts ≡ owner n w.parts
-told_owner n k w = same_owner n w.parts (told_at k w).parts (changed_same (λ p. p.children) k told w.parts (λ p q. refl))
+pub told_owner : (n k : ℕ) (w : Components) → owner n (heard_at k w).parts ≡ owner n w.parts
+told_owner n k w = same_owner n w.parts (heard_at k w).parts (changed_same (λ p. p.children) k told w.parts (λ p q. refl))

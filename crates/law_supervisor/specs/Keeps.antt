@@ -12,7 +12,7 @@ use Rattle.components.specs.Fitted.{Fitted, name_of}
 use Rattle.components.specs.Components.{Components, ComponentState, component_name, is_spared, is_broken, owner}
 use Rattle.components.specs.Turns.{owes}
 use Rattle.components.specs.Answers.{living_numbers}
-use Rattle.law_supervisor.specs.Sound.{AreSound, Differ, HaveOwnNames}
+use Rattle.law_supervisor.specs.Sound.{AreSound, AreDistinct, HaveOwnNames}
 
 -- how often the item of this name failed in the stage
 abbrev pub count_of : Device → List ℕ → Option ℕ
@@ -34,11 +34,11 @@ pub record IsCounted (d : Device) (p : ComponentState) : Type 0 where
   -- and the item that takes its place is one of the stage
   pub next : IfSome p.next (λ (n : Fitted × ℕ). (name_of n.0 ≡ component_name p) × (count_of d (name_of n.0) ≡ Some n.1))
 
-pub record Keeps (d : Device) (w : Components) : Type 0 where
+pub record IsSupervised (d : Device) (w : Components) : Type 0 where
   pub counted : (k : ℕ) (p : ComponentState) → slice_get w.parts k ≡ Some p → IsCounted d p
   pub sound : AreSound w.parts
   -- no number of a child stands twice
-  pub differ : Differ (living_numbers w.parts)
+  pub differ : AreDistinct (living_numbers w.parts)
   -- no name stands twice
   pub names : HaveOwnNames w.parts
   pub driven : w.steady ≡ false
@@ -48,8 +48,8 @@ abbrev pub Owns : Components → ℕ → Type 0
 Owns w n = IsSome (owner n w.parts)
 
 -- no failure is still to be recorded
-abbrev pub IsTold : Components → Type 0
-IsTold w = list_any owes w.parts ≡ false
+abbrev pub HasNoneOwed : Components → Type 0
+HasNoneOwed w = list_any owes w.parts ≡ false
 
 -- each item that is to come begins with the device's count of its name, and with fewer failures than break
 abbrev pub AreCounted : Device → List Fitted → List ℕ → Type 0

@@ -16,7 +16,7 @@ use Rattle.components.specs.declared.kinds.Prepared.{Prepared}
 use Rattle.components.specs.Fitted.{Fitted, steps_of}
 use Rattle.components.specs.Components.{Components, ComponentState}
 use Rattle.components.specs.Lives.{lived_at}
-use Rattle.components.specs.Events.{started, ended, skipped, told_at}
+use Rattle.components.specs.Events.{started, ended, skipped, heard_at}
 use Rattle.components.specs.Acts.{Move}
 use Rattle.components.specs.Changes.{changed_to}
 
@@ -78,8 +78,8 @@ failed install = ended 7 (exits.Code (pos 1)) (lives install)
 abbrev pub recorded : Device
 recorded = applied device_a (StepFailed (97 ∷ []) steps.Install (exits.Code (pos 1)))
 
-abbrev pub told : Prepared → Components
-told install = told_at 0 (failed install)
+abbrev pub heard_a : Prepared → Components
+heard_a install = heard_at 0 (failed install)
 
 -- ---- another version comes
 

@@ -58,9 +58,9 @@ pub record IsSoundPart (p : ComponentState) : Type 0 where
 -- ---- of all of them
 
 -- no number stands twice
-abbrev pub Differ : List ℕ → Type 0
-Differ [] = ⊤
-Differ (n ∷ ns) = All (λ (m : ℕ). m ≢ n) ns × Differ ns
+abbrev pub AreDistinct : List ℕ → Type 0
+AreDistinct [] = ⊤
+AreDistinct (n ∷ ns) = All (λ (m : ℕ). m ≢ n) ns × AreDistinct ns
 
 -- no two components have one name
 abbrev pub HaveOwnNames : List ComponentState → Type 0
@@ -73,5 +73,5 @@ AreSound parts = (k : ℕ) (p : ComponentState) → slice_get parts k ≡ Some p
 pub record IsOrderly (w : Components) : Type 0 where
   pub sound : AreSound w.parts
   -- no number of a child stands twice
-  pub differ : Differ (living_numbers w.parts)
+  pub differ : AreDistinct (living_numbers w.parts)
   pub names : HaveOwnNames w.parts

@@ -1,4 +1,4 @@
-// What a change to other items needs, for `Keeps` to hold behind it.
+// What a change to other items needs, for `IsSupervised` to hold behind it.
 ghost use Rattle.std.specs.Prelude.{◌≡◌, ◌↔◌, ◌<◌, ◌≤◌, ℕ, Bool, List, Some, false, length, map};
 ghost use Rattle.std.specs.List.{All};
 ghost use Rattle.std.specs.Option.{IfSome};
@@ -6,29 +6,30 @@ ghost use Rattle.records.specs.Stored.{Item};
 ghost use Rattle.records.specs.declared.record.Origin.{Origin};
 ghost use Rattle.device.specs.Devices.{Device, Pending};
 ghost use Rattle.device.specs.Lawful.{running};
-ghost use Rattle.device.specs.Plans.{Rise, item_name};
+ghost use Rattle.device.specs.Plans.{AreRising, item_name};
 ghost use Rattle.components.specs.Made.{AreFitted};
 ghost use Rattle.components.specs.Fitted.{Fitted};
 ghost use Rattle.components.specs.Components.{Components};
 ghost use Rattle.components.specs.Changes.{changed_to};
-ghost use Rattle.law_supervisor.specs.Keeps.{Keeps, IsTold, Owns, AreCounted, ItemsDiffer};
+ghost use Rattle.law_supervisor.specs.Keeps.{IsSupervised, HasNoneOwed, Owns, AreCounted, ItemsDiffer};
 ghost use Rattle.law_supervisor.specs.Sound.{IsOrderly};
 
-/// Where each item begins with the device's count of its name, and no failure of before is still to be told, a change to
+/// Where each item begins with the device's count of its name, and no failure of before is still owed, a change to
 /// these items gives what is to be kept. Children that live stay with their components.
 pub fn changes_keep()
     ensures keeps { (d : Device) (items : List Fitted) (counts : List ℕ) (w : Components) → IfSome d.pending (λ q. length q.failures ≡ 128) →
         AreCounted d items counts → ItemsDiffer items
-        → IsTold w → IsOrderly w → Keeps d (changed_to items counts false w) }
+        → HasNoneOwed w → IsOrderly w → IsSupervised d (changed_to items counts false w) }
     ensures owners { (n : ℕ) (items : List Fitted) (counts : List ℕ) (steady : Bool) (w : Components) → Owns (changed_to items counts steady w) n ↔ Owns w n }
-    ensures told { (items : List Fitted) (counts : List ℕ) (steady : Bool) (w : Components) → IsTold w → IsTold (changed_to items counts steady w) }
+    ensures owes_none { (items : List Fitted) (counts : List ℕ) (steady : Bool) (w : Components) →
+        HasNoneOwed w → HasNoneOwed (changed_to items counts steady w) }
 {}
 
 /// Items that were made ready from those that the stage brings up begin with the device's counts, and have names of their
 /// own.
 pub fn ready_items_are_counted()
     ensures counted { (o : Origin) (d : Device) (q : Pending) (items : List Item) (fitted : List Fitted) → d.pending ≡ Some q → running d.set q ≡ Some items →
-        Rise (map item_name items)
+        AreRising (map item_name items)
         → AreFitted o items fitted → length items ≤ length q.failures → All (λ (n : ℕ). n < 3) q.failures → AreCounted d fitted q.failures }
-    ensures differ { (o : Origin) (items : List Item) (fitted : List Fitted) → Rise (map item_name items) → AreFitted o items fitted → ItemsDiffer fitted }
+    ensures differ { (o : Origin) (items : List Item) (fitted : List Fitted) → AreRising (map item_name items) → AreFitted o items fitted → ItemsDiffer fitted }
 {}

@@ -13,11 +13,11 @@ use Rattle.components.specs.Lives.{lived, lived_at, stop_in}
 use Rattle.components.specs.Turns.{is_held_far, hard_needs}
 use Rattle.law_supervisor.proofs.Made.{MayBefall}
 use Rattle.law_supervisor.proofs.Lists.{clash}
-use Rattle.law_termination.specs.Drives.{GoesOn, IsInTime, IsBelow, IsDriven, Drives}
+use Rattle.law_termination.specs.Drives.{GoesOn, IsInTime, IsBelow, IsDriven, AreDriven}
 use Rattle.law_termination.specs.Kept.{IsKeptPart, IsOrderedPart, newest, AreKept}
 use Rattle.law_termination.proofs.Carried.{AreCarried, IsCarried, IsSource, carried_event, carried_still, carried_on, source_needs}
 use Rattle.law_termination.proofs.Lists.{Has, each_has}
-use Rattle.law_termination.proofs.Near.{all_front, all_more, all_of, at_from, at_some, has_at, same_bytes}
+use Rattle.law_termination.proofs.Near.{all_prefix, all_more, all_of, at_from, at_some, has_at, same_bytes}
 use Rattle.law_termination.proofs.Reorder.{newest_below, newest_there, none_needs, order, re_served}
 use Rattle.law_termination.proofs.Still.{among, apart_lived, ends_lived, gone_lived, in_time_lived, needs_lived, next_hard, shown_lived, still_lived}
 use Rattle.law_termination.proofs.Still.{takes_lived}
@@ -30,7 +30,7 @@ next_newest : (P : List ℕ → Type 0) (p : ComponentState) → AllByRecursion 
 next_newest P p a = elim p.next as (λ (o : Option (Fitted × ℕ)). (let f : Fitted = (elim o [ None ↦ p.fitted | Some n ↦ n.0 ]) in AllByRecursion P f.hard) →
     AllByRecursion P (next_hard o)) [ None ↦ λ b. tt | Some n ↦ λ b. b ] a
 
-module _ (w : Components) (i : Drives w) where
+module _ (w : Components) (i : AreDriven w) where
   -- its stop may be given
   pub record IsFree (a : After) (p : ComponentState) : Type 0 where
     pub asked : p.stop ≡ Some a
@@ -101,7 +101,7 @@ module _ (w : Components) (i : Drives w) where
     new_ordered : AllByRecursion (IsOrderedPart t i.s w.parts) w.parts
     new_ordered = all_of (IsOrderedPart t i.s w.parts) w.parts (λ p h. let o = each_has (IsOrderedPart i.r i.s w.parts) p w.parts h i.ordered in record {
       stands = λ g. all_more (IsBelow t w.parts (component_name p)) (λ n. t n < t (component_name p)) p.fitted.hard (λ n x. x.0)
-          (all_front (IsBelow t w.parts (component_name p)) p.fitted.hard _ ((again_served p h).needs g));
+          (all_prefix (IsBelow t w.parts (component_name p)) p.fitted.hard _ ((again_served p h).needs g));
       hard = o.hard;
       soft = o.soft;
       hard_there = o.hard_there;

@@ -19,7 +19,7 @@ use Rattle.components.specs.Acts.{MayMove, MayKill, is_kill_due, is_stop_due, sp
 use Rattle.components.specs.Components.{Components, ComponentState, Child, At, changed_at, is_to_stop, is_orphan, child_of, owner, under_way, without_child}
 use Rattle.components.specs.Components.{child_gone, stands_up}
 use Rattle.components.specs.Deadlines.{deadline_after, has_passed}
-use Rattle.components.specs.Events.{killed, gone_by, is_orphan_at, kill_event, kill_event_at, is_late_child, with_child, told_at}
+use Rattle.components.specs.Events.{killed, gone_by, is_orphan_at, kill_event, kill_event_at, is_late_child, with_child, heard_at}
 use Rattle.components.specs.Fitted.{limit_of, prepared_of}
 use Rattle.components.specs.Lives.{lived, lived_at, drops}
 use Rattle.components.specs.Turns.{may_begin, may_retry, may_stop, is_begun, is_met, serves_softly}
@@ -193,7 +193,7 @@ module _ (w : Components) (kept : AllByRecursion IsKeptPart w.parts) (c : ℕ) (
 
   -- ---- a failure that is told
 
-  pub told_calms : (k : ℕ) (s : Step) (x : Exit) (b : Bool) → OwesAt w k s x b → calm_total c (told_at k w) < calm_total c w
+  pub told_calms : (k : ℕ) (s : Step) (x : Exit) (b : Bool) → OwesAt w k s x b → calm_total c (heard_at k w) < calm_total c w
   told_calms k s x b a = let z = sum_changed (weight_steady w.moment c) 1400 k (λ p. record p {
     owed = None;
   }) 1 w.parts (at_map k w.parts _ (λ p. weight_steady w.moment c (record p { owed = None }) + 1 ≤ weight_steady w.moment c p) (λ p m. let o =

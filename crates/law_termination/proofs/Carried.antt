@@ -18,7 +18,7 @@ use Rattle.law_supervisor.proofs.Lists.{twice}
 use Rattle.law_termination.specs.Drives.{IsInTime, IsBelow, IsDriven, GoesOn, HasItemToTake, is_ending}
 use Rattle.law_termination.specs.Kept.{IsOrderedPart, AreKept}
 use Rattle.law_termination.proofs.Lists.{Has, each_has}
-use Rattle.law_termination.proofs.Near.{all_front, all_more, or_cases}
+use Rattle.law_termination.proofs.Near.{all_prefix, all_more, or_cases}
 use Rattle.law_termination.proofs.Orders.{Stands, View, still_ordered, view}
 use Rattle.law_termination.proofs.Still.{IsStill, still_mark}
 
@@ -175,7 +175,7 @@ module _ (Q : List ℕ → Type 0) (r : List ℕ → ℕ) (ps : List ComponentSt
   stands_all [] all a = tt
   stands_all (q ∷ qs) all a = (
     (λ g. all_more (IsBelow r all (component_name q)) (λ n. r n < r (component_name q)) q.fitted.hard (λ n x. x.0)
-        (all_front (IsBelow r all (component_name q)) q.fitted.hard _ (a.0.needs g))),
+        (all_prefix (IsBelow r all (component_name q)) q.fitted.hard _ (a.0.needs g))),
     stands_all qs all a.1,
   )
 

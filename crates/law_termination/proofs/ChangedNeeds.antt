@@ -20,18 +20,18 @@ use Rattle.law_supervisor.specs.Sound.{HaveOwnNames, is_to_begin_again, is_waiti
 use Rattle.law_supervisor.proofs.Changed.{found}
 use Rattle.law_supervisor.proofs.Reached.{idle_of, firsts_flagged, firsts, firsts_reaching}
 use Rattle.law_supervisor.proofs.Lists.{clash, either, none_of, not_so}
-use Rattle.law_termination.specs.Drives.{IsAmong, IsInTime, IsPlaced, IsBelow, IsDriven, MayTakeOver, Drives, HasItemToTake, is_ending}
+use Rattle.law_termination.specs.Drives.{IsAmong, IsInTime, IsPlaced, IsBelow, IsDriven, MayTakeOver, AreDriven, HasItemToTake, is_ending}
 use Rattle.law_termination.specs.Kept.{IsKeptPart, IsOrderedPart, are_there, newest}
 use Rattle.law_termination.proofs.ChangedLists.{has_new, new_first, new_second, of_marked, to_marked, of_standing, to_standing, counted_has, has_counted}
 use Rattle.law_termination.proofs.ChangedLists.{comes_for, bound_all, in_bound_all, or_none, of_filter, to_filter, IsMarked}
 use Rattle.law_termination.proofs.Changes.{HasSameSteps, changed_alone}
 use Rattle.law_termination.proofs.Lists.{Has, any_has, each_has, has_any, none_any, passing}
-use Rattle.law_termination.proofs.Near.{contains_one, all_front, all_joined, all_more, all_of, mapped, of_mapped, one_named, same_bytes}
+use Rattle.law_termination.proofs.Near.{contains_one, all_prefix, all_joined, all_more, all_of, mapped, of_mapped, one_named, same_bytes}
 use Rattle.law_termination.proofs.Near.{with_none}
 use Rattle.law_termination.proofs.Stands.{gone_apart, left_is, left_leaves, left_takes}
 use Rattle.law_termination.proofs.Still.{next_hard}
 
-module _ (items : List Fitted) (counts : List ℕ) (w : Components) (i : Drives w) (m : MayTakeOver items w.parts) where
+module _ (items : List Fitted) (counts : List ℕ) (w : Components) (i : AreDriven w) (m : MayTakeOver items w.parts) where
   abbrev ns : List Coming
   ns = counted 0 counts items
 
@@ -138,7 +138,7 @@ module _ (items : List Fitted) (counts : List ℕ) (w : Components) (i : Drives 
       let l = x.0 in
       let a = at_stood n (met_stood n x.1) in
       let b = at_stood (component_name p) (stands_self p h g) in
-      (omega (arith, l, a, b), inl x.1)) (all_front (IsBelow i.r w.parts (component_name p)) p.fitted.hard (coming_needs p) ((served p h).needs g))
+      (omega (arith, l, a, b), inl x.1)) (all_prefix (IsBelow i.r w.parts (component_name p)) p.fitted.hard (coming_needs p) ((served p h).needs g))
 
   none_taken : (y : Bool) (o : Option Coming) → o ≡ None → (if y then next_hard o else []) ≡ []
   none_taken true o e = ap next_hard e
@@ -520,7 +520,7 @@ module _ (items : List Fitted) (counts : List ℕ) (w : Components) (i : Drives 
   final_ordered : (q : ComponentState) → Has q final → IsOrderedPart order m.come.s final q
   final_ordered q h = let d = made q h in record {
     stands = λ g. all_more (λ n. (order n < order (component_name q)) × Stays n) (λ n. order n < order (component_name q)) q.fitted.hard (λ n x. x.0)
-        (all_front (λ n. (order n < order (component_name q)) × Stays n) q.fitted.hard (coming_needs q) (d.needs g));
+        (all_prefix (λ n. (order n < order (component_name q)) × Stays n) q.fitted.hard (coming_needs q) (d.needs g));
     hard = λ l. all_more (λ n. (m.come.s n < m.come.s (component_name q)) × IsAmong items n) (λ n. m.come.s n < m.come.s (component_name q)) (newest q).hard
         (λ n x. x.0) (d.hard l);
     soft = λ l. all_more (λ n. (m.come.s n < m.come.s (component_name q)) × IsAmong items n) (λ n. m.come.s n < m.come.s (component_name q)) (newest q).soft
@@ -530,7 +530,7 @@ module _ (items : List Fitted) (counts : List ℕ) (w : Components) (i : Drives 
   }
 
   pub change_drives : (steady : Bool) → AllByRecursion (λ (n : ℕ). n < 3) counts → HaveOwnNames (changed_to items counts steady w).parts →
-      Drives (changed_to items counts steady w)
+      AreDriven (changed_to items counts steady w)
   change_drives steady few names = record {
     alone = changed_alone items counts steady w i.alone m.come.runnable few (all_of (λ p. AllByRecursion (HasSameSteps p) items) w.parts (λ p h. all_of
         (HasSameSteps p) items (λ f j. m.steps f p

@@ -7,11 +7,11 @@ use Rattle.components.specs.Fitted.{Fitted}
 use Rattle.law_supervisor.specs.Keeps.{ItemsDiffer}
 use Rattle.law_supervisor.specs.Sound.{HaveOwnNames}
 use Rattle.law_supervisor.proofs.Placed.{changed_names}
-use Rattle.law_termination.specs.Drives.{Drives, IsDriven, MayTakeOver}
+use Rattle.law_termination.specs.Drives.{AreDriven, IsDriven, MayTakeOver}
 use Rattle.law_termination.specs.Kept.{IsKeptPart, IsOrderedPart}
 use Rattle.law_termination.proofs.ChangedNeeds.{change_drives}
 
-pub none_drives : (w : Components) → w.parts ≡ [] → Drives w
+pub none_drives : (w : Components) → w.parts ≡ [] → AreDriven w
 none_drives w e = record {
   alone = subst (λ (ps : List ComponentState). AllByRecursion IsKeptPart ps) (sym e) tt;
   names = subst HaveOwnNames (sym e) (λ j k p q x y z. absurd (cc));
@@ -21,6 +21,6 @@ none_drives w e = record {
   each = subst (λ (ps : List ComponentState). AllByRecursion (IsDriven (λ n. 0) ps) ps) (sym e) tt;
 }
 
-pub begins : (items : List Fitted) (counts : List ℕ) (steady : Bool) (w : Components) → Drives w → MayTakeOver items w.parts →
-    AllByRecursion (λ (n : ℕ). n < 3) counts → ItemsDiffer items → Drives (changed_to items counts steady w)
+pub begins : (items : List Fitted) (counts : List ℕ) (steady : Bool) (w : Components) → AreDriven w → MayTakeOver items w.parts →
+    AllByRecursion (λ (n : ℕ). n < 3) counts → ItemsDiffer items → AreDriven (changed_to items counts steady w)
 begins items counts steady w i m few d = change_drives items counts w i m steady few (changed_names items counts steady w d i.names)

@@ -13,12 +13,12 @@ use Rattle.lifecycle.specs.declared.kinds.After.{After}
 use Rattle.lifecycle.specs.declared.kinds.After.TheVariants as after
 use Rattle.lifecycle.specs.declared.kinds.LifeEvent.{LifeEvent}
 use Rattle.lifecycle.specs.declared.kinds.LifeEvent.TheVariants as event
-use Rattle.components.specs.Acts.{OwesAt, kills, spares, MayKill, MayMove, is_kill_due, is_stop_due, HandsOut, HasStart, Move, NextAct, Quietly}
+use Rattle.components.specs.Acts.{OwesAt, kills, spares, MayKill, MayMove, is_kill_due, is_stop_due, HandsOut, HasStart, Move, NextAct, MovesInOrder}
 use Rattle.components.specs.Components.{At, Child, ComponentState, Components, changed_at, child_gone, child_of, is_broken, is_orphan, is_to_stop, owner}
 use Rattle.components.specs.Components.{component_name, place_of, stands_up, without_child}
 use Rattle.components.specs.Deadlines.{deadline_after}
 use Rattle.components.specs.Events.{ended, gone_by, handed_at, is_late_child, is_orphan_at, kill_event, kill_event_at, killed, refused, skipped, started}
-use Rattle.components.specs.Events.{told_at, with_child, later}
+use Rattle.components.specs.Events.{heard_at, with_child, later}
 use Rattle.components.specs.Fitted.{limit_of, prepared_of}
 use Rattle.components.specs.Lives.{lived_at}
 use Rattle.components.specs.Turns.{is_begun, is_met, may_begin, may_retry, serves_softly, may_stop, hard_needs}
@@ -26,7 +26,7 @@ use Rattle.components.specs.declared.kinds.Act.{Act}
 use Rattle.components.specs.declared.kinds.Act.TheVariants as acts
 use Rattle.law_supervisor.proofs.Gone.{owner_at}
 use Rattle.law_supervisor.proofs.Lists.{second_true, some_same, not_so, changed_nothing}
-use Rattle.law_termination.specs.Drives.{GoesOn, IsInTime, Drives}
+use Rattle.law_termination.specs.Drives.{GoesOn, IsInTime, AreDriven}
 use Rattle.law_termination.specs.Kept.{AreKept, IsKeptPart}
 use Rattle.law_termination.proofs.Answered.{handed_all}
 use Rattle.law_termination.proofs.Befalls.{IsReady, any, event_on, same_order, sources}
@@ -63,7 +63,7 @@ still_among cs h p f = record {
   in_time = f;
 }
 
-module _ (w : Components) (i : Drives w) where
+module _ (w : Components) (i : AreDriven w) where
   children_on : (k : ℕ) (g : ComponentState → ComponentState) → At k (λ p. IsStill p (g p)) w.parts → AreKept (record w { parts = changed_at k g w.parts }) →
       GoesOn w (record w { parts = changed_at k g w.parts })
   children_on k g a alone = same_order w i (record w { parts = changed_at k g w.parts }) alone (carried_changed any i.r w.parts k g w.parts (sources w i)
@@ -108,7 +108,7 @@ module _ (w : Components) (i : Drives w) where
   pub move_on : (k : ℕ) (e : LifeEvent) → MayMove w k e → GoesOn w (lived_at k e w)
   move_on k e m = alone_moves k e (ready k e m) (move_keeps w i.alone k e m).kept
 
-  pub told_on : (k : ℕ) (s : Step) (x : Exit) (b : Bool) → OwesAt w k s x b → GoesOn w (told_at k w)
+  pub told_on : (k : ℕ) (s : Step) (x : Exit) (b : Bool) → OwesAt w k s x b → GoesOn w (heard_at k w)
   told_on k s x b o = children_on k (λ p. record p { owed = None })
       (at_map k w.parts (λ p. (p.owed ≡ Some (s, x)) × (is_broken p.life.state ≡ b) × (place_of (component_name p) w.parts ≡ Some k)) (λ p. IsStill p
       (record p { owed = None }))
@@ -248,20 +248,20 @@ module _ (w : Components) (i : Drives w) where
 pub goes_through : (u v w : Components) → GoesOn u v → GoesOn v w → GoesOn u w
 goes_through u v w a b = record { drives = b.drives; stays = b.stays ∙ a.stays }
 
-self_on : (w : Components) → Drives w → GoesOn w w
+self_on : (w : Components) → AreDriven w → GoesOn w w
 self_on w d = record { drives = d; stays = refl }
 
-pub later_on : (w : Components) → Drives w → (m : ℕ) → GoesOn w (later m w)
+pub later_on : (w : Components) → AreDriven w → (m : ℕ) → GoesOn w (later m w)
 later_on w i m = record { drives = record { alone = i.alone; names = i.names; r = i.r; s = i.s; ordered = i.ordered; each = i.each }; stays = refl }
 
 -- ---- the next act
 
-pub quiet_on : (w v : Components) (ms : List Move) → Quietly w ms v → Drives w → GoesOn w v
+pub quiet_on : (w v : Components) (ms : List Move) → MovesInOrder w ms v → AreDriven w → GoesOn w v
 quiet_on w v [] q i = subst (GoesOn w) (sym q) (self_on w i)
 quiet_on w v (m ∷ ms) q i = let x = move_on w i m.who m.what q.1 in
     goes_through w (lived_at m.who m.what w) v x (quiet_on (lived_at m.who m.what w) v ms q.2 x.drives)
 
-hand_on : (w : Components) (act : Option Act) (v : Components) → Drives w → HandsOut w act v → GoesOn w v
+hand_on : (w : Components) (act : Option Act) (v : Components) → AreDriven w → HandsOut w act v → GoesOn w v
 hand_on w None v i h = subst (GoesOn w) (sym h.1) (self_on w i)
 hand_on w (Some (acts.Start k t)) v i h = subst (GoesOn w) (sym h.2)
     (handed_on w i k (at_map k w.parts (HasStart t) (λ p. Unit {0}) (λ p x. tt) h.1) (handed_all IsKeptPart handed_kept k w.parts i.alone))
@@ -269,5 +269,5 @@ hand_on w (Some (acts.Kill n)) v i h = subst (GoesOn w) (sym h.4) (kill_on w i n
 hand_on w (Some (acts.Failed k t e)) v i h = subst (GoesOn w) (sym h.1) (told_on w i k t e false h.0)
 hand_on w (Some (acts.Broke k t e)) v i h = subst (GoesOn w) (sym h.1) (told_on w i k t e true h.0)
 
-pub next_on : (w v : Components) (act : Option Act) → NextAct w act v → Drives w → GoesOn w v
+pub next_on : (w v : Components) (act : Option Act) → NextAct w act v → AreDriven w → GoesOn w v
 next_on w v act n i = let x = quiet_on w n.seen n.made n.quietly i in goes_through w n.seen v x (hand_on n.seen act v x.drives n.hands)

@@ -25,7 +25,7 @@ use Rattle.components.proofs.Held.{none_for}
 use Rattle.law_supervisor.specs.Sound.{is_waiting}
 use Rattle.law_supervisor.proofs.Alone.{bare_of}
 use Rattle.law_supervisor.proofs.Lists.{either, clash, none_of, not_so, second_true}
-use Rattle.law_termination.specs.Drives.{Drives, IsBelow, IsDriven, has_failed, is_ending}
+use Rattle.law_termination.specs.Drives.{AreDriven, IsBelow, IsDriven, has_failed, is_ending}
 use Rattle.law_termination.specs.Kept.{IsKeptPart, IsOrderedPart, AllBelow, are_there, newest, is_timed}
 use Rattle.law_termination.specs.Time.{HasTime}
 use Rattle.law_termination.proofs.Farther.{none_reaches}
@@ -130,7 +130,7 @@ shuts_down c sound e = grind (arith, sound.busy, e)
 starts : (c : Life) → IsSound c → c.state ≡ state.Starting → is_some c.busy ≡ true
 starts c sound e = grind (arith, sound.busy, e)
 
-module _ (w : Components) (k : Drives w) (quiet : IsQuiet w) (answered : has_answered w ≡ true) where
+module _ (w : Components) (k : AreDriven w) (quiet : IsQuiet w) (answered : has_answered w ≡ true) where
   kept : (p : ComponentState) → Has p w.parts → IsKeptPart p
   kept p h = each_has IsKeptPart p w.parts h k.alone
 

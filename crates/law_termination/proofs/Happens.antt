@@ -17,7 +17,7 @@ use Rattle.components.specs.Acts.{MayMove, MayKill, is_kill_due, is_stop_due, sp
 use Rattle.components.specs.Components.{Components, ComponentState, Child, At, changed_at, is_to_stop, is_leaving, is_orphan, child_of, owner, without_child}
 use Rattle.components.specs.Components.{child_gone, stands_up}
 use Rattle.components.specs.Events.{answered_at, started, refused, skipped, ended, killed, gone_by, is_orphan_at, kill_event, kill_event_at, is_late_child}
-use Rattle.components.specs.Events.{with_child, told_at}
+use Rattle.components.specs.Events.{with_child, heard_at}
 use Rattle.components.specs.Lives.{lived_at}
 use Rattle.components.specs.Turns.{may_begin, may_retry, may_stop, is_begun, is_met, serves_softly}
 use Rattle.law_supervisor.proofs.Made.{MayBefall}
@@ -115,7 +115,7 @@ module _ (w : Components) (kept : AllByRecursion IsKeptPart w.parts) (price : �
   started_plainly k n step.Bootstrap a = lives_on k n step.Bootstrap a
 
   -- ---- a failure that is told
-  pub told_lowers : (k : ℕ) (s : Step) (x : Exit) (b : Bool) → OwesAt w k s x b → total price (told_at k w) < total price w
+  pub told_lowers : (k : ℕ) (s : Step) (x : Exit) (b : Bool) → OwesAt w k s x b → total price (heard_at k w) < total price w
   told_lowers k s x b a = let z = sum_changed (weight_by price) 165 k (λ p. record p {
     owed = None;
   }) 1 w.parts (at_map k w.parts _ (λ p. weight_by price (record p { owed = None }) + 1 ≤ weight_by price p) (λ p m. let o = m.0 in

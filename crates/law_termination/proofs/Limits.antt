@@ -11,7 +11,7 @@ use Rattle.recipe_reader.specs.Dependencies.{dependencies_lines}
 use Rattle.recipe_reader.specs.Environment.{Variable, environment_lines}
 use Rattle.recipe_reader.specs.Keys.{keyed}
 use Rattle.recipe_reader.specs.Lifecycles.{AreSteps, HasBoth, first_steps, keys_lines, last_steps, lifecycle_lines, one_step, step_value}
-use Rattle.recipe_reader.specs.OneRecipe.{Reads}
+use Rattle.recipe_reader.specs.OneRecipe.{IsRecipeFor}
 use Rattle.recipe_reader.specs.Platforms.{manifests_lines}
 use Rattle.recipe_reader.specs.Recipes.{chosen_lines, config_lines, head_lines, inner, manifest_of, part_lines, recipe_lines}
 use Rattle.recipe_reader.specs.Spelled.{spelled}
@@ -103,7 +103,7 @@ chosen_hold platform d h =
     hold_last (optional (spelled key.Manifests) d (manifests_lines platform)) (on (manifest_of platform d) chosen_lines)
     (hold_last (head_lines d ++ configs ++ needs) (part_lines platform d) h)
 
-pub limits_are_long : (bytes : List ℕ) (platform : Platform) (r : Recipe) → Reads bytes platform r → (step : Step) → IfSome (step_of r step) IsLong
+pub limits_are_long : (bytes : List ℕ) (platform : Platform) (r : Recipe) → IsRecipeFor bytes platform r → (step : Step) → IfSome (step_of r step) IsLong
 limits_are_long bytes platform r reads step =
     long_steps (inner key.Lifecycle (manifest_of platform reads.0)) r (lifecycle_holds (manifest_of platform reads.0) (chosen_hold platform reads.0 reads.2))
     reads.3.steps step

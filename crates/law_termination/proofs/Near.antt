@@ -7,7 +7,7 @@ use Rattle.std.specs.Str.{bytes_eq}
 use Rattle.std.proofs.lemmas.Bool.{and_parts, or_left, or_right, or_parts}
 use Rattle.std.proofs.lemmas.Slice.Eq.{bytes_eq-Decides}
 use Rattle.components.specs.Components.{At, ComponentState, component_name}
-use Rattle.components.specs.Marks.{Flagged, Within, flagged, grown, is_flagged, needs_flagged}
+use Rattle.components.specs.Marks.{Flagged, AreFlagsWithin, flagged, grown, is_flagged, needs_flagged}
 use Rattle.law_supervisor.specs.Sound.{HaveOwnNames}
 use Rattle.law_supervisor.proofs.Lists.{some_same}
 use Rattle.law_supervisor.proofs.Reached.{firsts}
@@ -33,9 +33,9 @@ pub all_more : {X : Type 0} (P Q : X → Type 0) (xs : List X) → ((x : X) → 
 all_more P Q [] f a = tt
 all_more P Q (x ∷ xs) f a = (f x a.0, all_more P Q xs f a.1)
 
-pub all_front : {X : Type 0} (P : X → Type 0) (xs ys : List X) → AllByRecursion P (xs ++ ys) → AllByRecursion P xs
-all_front P [] ys a = tt
-all_front P (x ∷ xs) ys a = (a.0, all_front P xs ys a.1)
+pub all_prefix : {X : Type 0} (P : X → Type 0) (xs ys : List X) → AllByRecursion P (xs ++ ys) → AllByRecursion P xs
+all_prefix P [] ys a = tt
+all_prefix P (x ∷ xs) ys a = (a.0, all_prefix P xs ys a.1)
 
 pub all_back : {X : Type 0} (P : X → Type 0) (xs ys : List X) → AllByRecursion P (xs ++ ys) → AllByRecursion P ys
 all_back P [] ys a = a
@@ -97,14 +97,14 @@ closed_flags all (f ∷ fs) p c (inl q) e =
 closed_flags all (f ∷ fs) p c (inr h) e = or_right (f.1 && bytes_eq (component_name f.0) (component_name p)) (is_flagged (component_name p) fs)
     (closed_flags all fs p (ap (λ (gs : Flagged). elim gs [ [] ↦ [] | ◌∷◌ g gs ↦ gs ]) c) h e)
 
-pub flag_within : (p : ComponentState) (fs hs : Flagged) → Within fs hs → HasFlag p fs → HasFlag p hs
+pub flag_within : (p : ComponentState) (fs hs : Flagged) → AreFlagsWithin fs hs → HasFlag p fs → HasFlag p hs
 flag_within p [] [] w h = h
 flag_within p [] (g ∷ hs) w h = absurd w
 flag_within p (f ∷ fs) [] w h = absurd w
 flag_within p (f ∷ fs) (g ∷ hs) w (inl q) = inl (q ∙ w.0)
 flag_within p (f ∷ fs) (g ∷ hs) w (inr h) = inr (flag_within p fs hs w.2 h)
 
-pub flagged_more : (n : List ℕ) (fs hs : Flagged) → Within fs hs → is_flagged n fs ≡ true → is_flagged n hs ≡ true
+pub flagged_more : (n : List ℕ) (fs hs : Flagged) → AreFlagsWithin fs hs → is_flagged n fs ≡ true → is_flagged n hs ≡ true
 flagged_more n [] [] w e = e
 flagged_more n [] (h ∷ hs) w e = absurd w
 flagged_more n (f ∷ fs) [] w e = absurd w

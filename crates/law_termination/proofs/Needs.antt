@@ -5,7 +5,7 @@ use Rattle.std.specs.Option.{IsSomeAnd}
 use Rattle.std.specs.Str.{bytes_eq}
 use Rattle.components.specs.Turns.{IsQuiet}
 use Rattle.components.specs.declared.kinds.Prepared.{Prepared}
-use Rattle.law_termination.specs.Drives.{Drives}
+use Rattle.law_termination.specs.Drives.{AreDriven}
 use Rattle.law_termination.specs.Kept.{IsKeptPart}
 use Rattle.law_termination.specs.Small.{fitted_a, fitted_b, one_waits, part_a, part_b}
 use Rattle.law_termination.specs.Time.{HasTime}
@@ -42,7 +42,7 @@ kept_b = record {
   waits = refl;
 }
 
-pub waits_kept : (m : Prepared) → IsSomeAnd m.limit_ms (λ l. 1 ≤ l) → Drives (one_waits m)
+pub waits_kept : (m : Prepared) → IsSomeAnd m.limit_ms (λ l. 1 ≤ l) → AreDriven (one_waits m)
 waits_kept m e = record {
   alone = (kept_a m e, (kept_b, tt));
   names = own_names (one_waits m).parts refl;
@@ -59,7 +59,7 @@ waits_kept m e = record {
 }
 
 pub waits_quiet : (m : Prepared) → IsQuiet (one_waits m)
-waits_quiet m = record { told = refl; none = refl }
+waits_quiet m = record { owes_none = refl; none = refl }
 
 pub waits_time : (m : Prepared) → HasTime (one_waits m)
 waits_time m = omega arith

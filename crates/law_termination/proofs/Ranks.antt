@@ -5,7 +5,7 @@ use Rattle.nuc_base.specs.declared.kinds.Step.{Step}
 use Rattle.lifecycle.specs.declared.kinds.LifeEvent.{LifeEvent}
 use Rattle.components.specs.Acts.{MayMove, MayKill, OwesAt}
 use Rattle.components.specs.Components.{Components, At, owner}
-use Rattle.components.specs.Events.{handed_at, started, refused, skipped, ended, killed, told_at}
+use Rattle.components.specs.Events.{handed_at, started, refused, skipped, ended, killed, heard_at}
 use Rattle.components.specs.Lives.{lived_at}
 use Rattle.components.specs.Turns.{is_begun}
 use Rattle.law_termination.specs.Kept.{IsFalling, AreKept}
@@ -32,8 +32,8 @@ module _ (w : Components) (a : AreKept w) (f : IsFalling w) where
   pub killed_rank : (n k : ℕ) (s : Step) → MayKill w n k s → rank (killed n w) < rank w
   killed_rank n k s m = less_rank (killed n w) w (length_killed n w) (killed_lowers w a (one_failure w.parts) (room (one_failure w.parts)) f n k s m)
 
-  pub told_rank : (k : ℕ) (s : Step) (x : Exit) (b : Bool) → OwesAt w k s x b → rank (told_at k w) < rank w
-  told_rank k s x b m = less_rank (told_at k w) w (length_changed k (λ p. record p { owed = None }) w.parts) (told_lowers w a (one_failure w.parts)
+  pub told_rank : (k : ℕ) (s : Step) (x : Exit) (b : Bool) → OwesAt w k s x b → rank (heard_at k w) < rank w
+  told_rank k s x b m = less_rank (heard_at k w) w (length_changed k (λ p. record p { owed = None }) w.parts) (told_lowers w a (one_failure w.parts)
       (room (one_failure w.parts)) f k s x b m)
 
   pub started_rank : (k n : ℕ) (s : Step) → At k (λ p. is_begun s p ≡ true) w.parts → rank (started k s n w) < rank w

@@ -6,7 +6,7 @@ use Rattle.std.specs.Str.{bytes_eq}
 use Rattle.components.specs.Fitted.{Fitted, is_same_item, steps_of}
 use Rattle.components.specs.declared.kinds.Prepared.{Prepared}
 use Rattle.law_supervisor.specs.Sound.{HaveOwnNames}
-use Rattle.law_termination.specs.Drives.{MayTakeOver, Drives}
+use Rattle.law_termination.specs.Drives.{MayTakeOver, AreDriven}
 use Rattle.law_termination.specs.Kept.{IsKeptPart, IsRunnable}
 use Rattle.law_termination.specs.Replaced.{both_up, fitted_a, fitted_b, newer, replaced, running}
 use Rattle.law_termination.proofs.ChangedNeeds.{change_drives}
@@ -51,7 +51,7 @@ kept_b m = record {
   waits = refl;
 }
 
-pub both_drive : (m : Prepared) → Drives (both_up m)
+pub both_drive : (m : Prepared) → AreDriven (both_up m)
 both_drive m = record {
   alone = (kept_a m, (kept_b m, tt));
   names = own_names (both_up m).parts refl;
@@ -88,5 +88,5 @@ may_take_over m = record {
 pub replaced_names : (m : Prepared) → HaveOwnNames (replaced m).parts
 replaced_names m = own_names (replaced m).parts refl
 
-pub replaced_drives : (m : Prepared) → Drives (replaced m)
+pub replaced_drives : (m : Prepared) → AreDriven (replaced m)
 replaced_drives m = change_drives (newer m) [] (both_up m) (both_drive m) (may_take_over m) false tt (replaced_names m)

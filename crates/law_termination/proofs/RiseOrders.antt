@@ -6,7 +6,7 @@ use Rattle.std.specs.List.{AllByRecursion}
 use Rattle.std.specs.Str.{bytes_eq}
 use Rattle.std.proofs.lemmas.Bool.{and_parts, or_right}
 use Rattle.std.proofs.lemmas.Slice.Eq.{bytes_eq-Decides}
-use Rattle.nuc_base.specs.Leads.{Leads}
+use Rattle.nuc_base.specs.Leads.{HasPath}
 use Rattle.components.specs.Changes.{fresh_part}
 use Rattle.components.specs.Components.{ComponentState, component_name}
 use Rattle.components.specs.Fitted.{Fitted, name_of}
@@ -73,7 +73,7 @@ reaches_on items f n t h m e = closed_flags (reach_of t items) (reach_of t items
 -- ---- whoever reaches does so by needs
 
 abbrev Sought : List Fitted → List ℕ → List ℕ → Type 0
-Sought items t a = (a ≡ t) ⊎ Leads (Needs items) a t
+Sought items t a = (a ≡ t) ⊎ HasPath (Needs items) a t
 
 abbrev IsFlag : List Fitted → List ℕ → ComponentState × Bool → Type 0
 IsFlag items t f = ((g : Fitted) × Has g items × (f.0 ≡ part_of g)) × (f.1 ≡ true → Sought items t (component_name f.0))
@@ -99,8 +99,8 @@ one_need (n ∷ ns) fs e = elim (or_cases (is_flagged n fs) (needs_flagged ns fs
 ]
 
 lead : (items : List Fitted) (a b t : List ℕ) → Needs items a b → Sought items t b → Sought items t a
-lead items a b t n (inl e) = inr (Leads.direct (subst (λ (z : List ℕ). Needs items a z) e n))
-lead items a b t n (inr l) = inr (Leads.through n l)
+lead items a b t n (inl e) = inr (HasPath.direct (subst (λ (z : List ℕ). Needs items a z) e n))
+lead items a b t n (inr l) = inr (HasPath.through n l)
 
 flags_grown : (items : List Fitted) (t : List ℕ) (all fs : Flagged) → AllByRecursion (IsFlag items t) all → AllByRecursion (IsFlag items t) fs →
     AllByRecursion (IsFlag items t) (grown all fs)
@@ -162,7 +162,7 @@ fewer p q one (f ∷ fs) (inr h) x y i = let r = fewer p q one fs h x y i in eli
 abbrev pub order_of : List Fitted → List ℕ → ℕ
 order_of items a = count_of (λ f. reaches items a (name_of f)) items
 
-pub needs_below : (items : List Fitted) (f : Fitted) (n : List ℕ) → ((name : List ℕ) → Leads (Needs items) name name → ⊥) → Has f items → Has n (needs_of f) →
+pub needs_below : (items : List Fitted) (f : Fitted) (n : List ℕ) → ((name : List ℕ) → HasPath (Needs items) name name → ⊥) → Has f items → Has n (needs_of f) →
     order_of items n < order_of items (name_of f)
 needs_below items f n acyclic h m = fewer (λ g. reaches items n (name_of g)) (λ g. reaches items (name_of f) (name_of g)) f items h none
     (reaches_self items f h) (λ g e. reaches_on items f n (name_of g) h m e)
@@ -171,8 +171,8 @@ needs_below items f n acyclic h m = fewer (λ g. reaches items n (name_of g)) (�
     need = record { item = f; is_one = h; from = refl; to = m }
 
     no : Sought items (name_of f) n → ⊥
-    no (inl e) = acyclic (name_of f) (Leads.direct (subst (λ (z : List ℕ). Needs items (name_of f) z) e need))
-    no (inr l) = acyclic (name_of f) (Leads.through need l)
+    no (inl e) = acyclic (name_of f) (HasPath.direct (subst (λ (z : List ℕ). Needs items (name_of f) z) e need))
+    no (inr l) = acyclic (name_of f) (HasPath.through need l)
 
     none : reaches items n (name_of f) ≡ false
     none = elim (either (reaches items n (name_of f))) [ inl e ↦ absurd (no (sought items n (name_of f) e)) | inr e ↦ e ]

@@ -19,14 +19,14 @@ use Rattle.law_supervisor.specs.Sound.{HaveOwnNames, is_to_begin_again, is_waiti
 use Rattle.law_supervisor.proofs.Alone.{bare_of}
 use Rattle.law_supervisor.proofs.Together.{same_names}
 use Rattle.law_supervisor.proofs.Lists.{clash, either, second_true}
-use Rattle.law_termination.specs.Drives.{IsInTime, IsDriven, Drives, IsBelow, is_ending, HasItemToTake, GoesOn, has_failed}
+use Rattle.law_termination.specs.Drives.{IsInTime, IsDriven, AreDriven, IsBelow, is_ending, HasItemToTake, GoesOn, has_failed}
 use Rattle.law_termination.specs.Kept.{IsKeptPart, IsComing}
 use Rattle.law_termination.specs.Time.{HasTime}
 use Rattle.law_termination.proofs.Befalls.{any, same_order, sources}
 use Rattle.law_termination.proofs.Carried.{AreCarried, IsSource, carried_still}
 use Rattle.law_termination.proofs.Goes.{begin_goes, stop_goes}
 use Rattle.law_termination.proofs.Lists.{Has}
-use Rattle.law_termination.proofs.Near.{all_more, all_joined, all_front, all_own}
+use Rattle.law_termination.proofs.Near.{all_more, all_joined, all_prefix, all_own}
 use Rattle.law_termination.proofs.Orders.{left_ordered, view}
 use Rattle.law_termination.proofs.Parts.{left_keeps}
 use Rattle.law_termination.proofs.Still.{IsStill, next_hard}
@@ -52,13 +52,13 @@ below : (m : ℕ) (o : Option ℕ) → IsSomeAnd o (λ d. m < d) → IfSome o (�
 below m None t i = absurd t
 below m (Some d) t i = omega (arith, t, i)
 
-in_range : (w : Components) → Drives w → HasTime w → Goes w
+in_range : (w : Components) → AreDriven w → HasTime w → Goes w
 in_range w i t = (t, below w.moment (least_deadline w) t (least_in_time i.r w.parts w.parts i.each))
 
-pub rises : (w : Components) → Drives w → has_answered w ≡ true → IsQuiet w → (is_settled w ≡ true) ⊎ (has_failed w ≡ true) ⊎ Goes w
+pub rises : (w : Components) → AreDriven w → has_answered w ≡ true → IsQuiet w → (is_settled w ≡ true) ⊎ (has_failed w ≡ true) ⊎ Goes w
 rises w i a q = elim (begin_goes w i q a) [ inl x ↦ inl x | inr y ↦ elim y [ inl x ↦ inr (inl x) | inr t ↦ inr (inr (in_range w i t)) ] ]
 
-pub leaves : (w : Components) → Drives w → list_all is_leaving w.parts ≡ true → has_answered w ≡ true → IsQuiet w → (is_stopped w ≡ true) ⊎ Goes w
+pub leaves : (w : Components) → AreDriven w → list_all is_leaving w.parts ≡ true → has_answered w ≡ true → IsQuiet w → (is_stopped w ≡ true) ⊎ Goes w
 leaves w i l a q = elim (stop_goes w i q a l) [ inl x ↦ inl x | inr t ↦ inr (in_range w i t) ]
 
 -- ---- the end of a deployment
@@ -132,7 +132,7 @@ still_sound_all : (ps : List ComponentState) → AllByRecursion IsKeptPart ps �
 still_sound_all [] a = tt
 still_sound_all (p ∷ ps) a = (still_keeps p a.0, still_sound_all ps a.1)
 
-pub steady_on : (w : Components) → Drives w → GoesOn w (steadied w)
+pub steady_on : (w : Components) → AreDriven w → GoesOn w (steadied w)
 steady_on w i = same_order w i (steadied w) (still_sound_all w.parts i.alone) (forgotten_carried i.r w.parts w.parts (sources w i))
 
 -- ---- the stop of all
@@ -214,7 +214,7 @@ left_served r all (p ∷ ps) k a = (one, left_served r all ps k.1 a.1)
     pulled : p.life.gone ≡ false → AllByRecursion (IsBelow r (map leaving all) (component_name p)) (hard_needs (leaving p))
     pulled g = all_joined (IsBelow r (map leaving all) (component_name p)) (leaving p).fitted.hard (coming_needs (leaving p))
         (subst (λ (f : Fitted). AllByRecursion (IsBelow r (map leaving all) (component_name p)) f.hard) (sym x.fitted)
-        (all_front (IsBelow r (map leaving all) (component_name p)) p.fitted.hard (coming_needs p) (needed g)))
+        (all_prefix (IsBelow r (map leaving all) (component_name p)) p.fitted.hard (coming_needs p) (needed g)))
         (subst (λ (ns : List (List ℕ)). AllByRecursion (IsBelow r (map leaving all) (component_name p)) ns)
         (sym (none_taken (is_again (under_way (leaving p).life)) (leaving p).next (x.next g))) tt)
 
@@ -242,7 +242,7 @@ left_names ps n = same_names ps (map leaving ps) (names ps) n
     names (q ∷ qs) = ap (λ (f : Fitted). name_of f ∷ map component_name (map leaving qs)) (left_is q).fitted
         ∙ ap (λ (ns : List (List ℕ)). component_name q ∷ ns) (names qs)
 
-pub stop_drives : (w : Components) → Drives w → Drives (all_stopped w)
+pub stop_drives : (w : Components) → AreDriven w → AreDriven (all_stopped w)
 stop_drives w i = record {
   alone = left_all w.parts i.alone;
   names = left_names w.parts i.names;

@@ -17,7 +17,7 @@ use Rattle.components.specs.Acts.{MayMove, MayKill, is_kill_due, spares, OwesAt}
 use Rattle.components.specs.Components.{Components, ComponentState, Child, At, changed_at, is_to_stop, child_of, owner, without_child, child_gone, stands_up}
 use Rattle.components.specs.Deadlines.{deadline_after}
 use Rattle.components.specs.Events.{answered_at, handed_at, started, refused, skipped, ended, killed, gone_by, is_orphan_at, kill_event, kill_event_at}
-use Rattle.components.specs.Events.{is_late_child, with_child, told_at}
+use Rattle.components.specs.Events.{is_late_child, with_child, heard_at}
 use Rattle.components.specs.Fitted.{prepared_of, limit_of, steps_of}
 use Rattle.components.specs.Lives.{lived, lived_at, drops_at as drops_in}
 use Rattle.components.specs.Marks.{Flagged, flagged_at, reaching, marked, restarted, may_restart}
@@ -72,7 +72,7 @@ module _ (d : Bool) (w : Components) (all : AllByRecursion (Known d) w.parts) wh
   skipped_plainly k t a = plain_known d k event.Skipped w all (known_at k (λ p. is_begun t p ≡ true) (λ p. Known d (lived w.steady event.Skipped p))
       (λ p x m. stays_known d w.steady event.Skipped p x tt refl) a)
 
-  pub told_known : (k : ℕ) (s : Step) (x : Exit) (b : Bool) → OwesAt w k s x b → AllKnown (told_at k w)
+  pub told_known : (k : ℕ) (s : Step) (x : Exit) (b : Bool) → OwesAt w k s x b → AllKnown (heard_at k w)
   told_known k s x b a = changed_known (Known d) k (λ p. record p { owed = None }) w.parts all
       (known_at k _ (λ p. Known d (record p { owed = None }))
       (λ p x m. (

@@ -29,7 +29,7 @@ use Rattle.law_termination.specs.Drives.{IsInTime, HasItemToTake, is_ending}
 use Rattle.law_termination.specs.Kept.{IsComing, IsKeptPart, newest}
 use Rattle.law_termination.proofs.Keeps.{lived_leaving}
 use Rattle.law_termination.proofs.Lists.{Has}
-use Rattle.law_termination.proofs.Near.{all_back, all_front, all_joined, all_own}
+use Rattle.law_termination.proofs.Near.{all_back, all_prefix, all_joined, all_own}
 use Rattle.law_termination.proofs.Orders.{view}
 
 -- ---- rows of the table
@@ -171,7 +171,7 @@ module _ (b : Bool) (e : LifeEvent) (p : ComponentState) (cs : List Child) (h : 
     by_row r f =
         let x = put_right b e (among cs h p) r in
         let i = as_row b e (among cs h p) r in
-        let hard : AllByRecursion P x.fitted.hard = subst (λ (z : Fitted). AllByRecursion P z.hard) (sym i.fitted) (all_front P p.fitted.hard
+        let hard : AllByRecursion P x.fitted.hard = subst (λ (z : Fitted). AllByRecursion P z.hard) (sym i.fitted) (all_prefix P p.fitted.hard
         (coming_needs p) a) in
         elim (is_again (completed e p.life x.life)) as (λ (y : Bool). is_again (completed e p.life x.life) ≡ y →
         AllByRecursion P (hard_needs (if y then replaced x else x))) [

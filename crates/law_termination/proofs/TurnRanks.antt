@@ -5,9 +5,9 @@ use Rattle.std.specs.List.{AllByRecursion}
 use Rattle.nuc_base.specs.declared.kinds.Exit.{Exit}
 use Rattle.nuc_base.specs.declared.kinds.Step.{Step}
 use Rattle.lifecycle.specs.declared.kinds.LifeEvent.{LifeEvent}
-use Rattle.components.specs.Acts.{HandsOut, MayKill, MayMove, Move, NextAct, OwesAt, Quietly}
+use Rattle.components.specs.Acts.{HandsOut, MayKill, MayMove, Move, NextAct, OwesAt, MovesInOrder}
 use Rattle.components.specs.Components.{Components, ComponentState, At, changed_at}
-use Rattle.components.specs.Events.{answered_at, handed_at, killed, later, refused, skipped, started, told_at}
+use Rattle.components.specs.Events.{answered_at, handed_at, killed, later, refused, skipped, started, heard_at}
 use Rattle.components.specs.Lives.{lived_at}
 use Rattle.components.specs.Turns.{is_begun}
 use Rattle.components.specs.declared.kinds.Act.{Act}
@@ -64,8 +64,8 @@ module _ (w : Components) (a : AreKept w) (steady : w.steady ≡ true) where
   pub move_turn : (k : ℕ) (e : LifeEvent) → MayMove w k e → turn_rank (lived_at k e w) < turn_rank w
   move_turn k e m = less_turn (lived_at k e w) w (length_lived k e w) (move_calms w a cost (room cost) steady k e m)
 
-  pub told_turn : (k : ℕ) (s : Step) (x : Exit) (b : Bool) → OwesAt w k s x b → turn_rank (told_at k w) < turn_rank w
-  told_turn k s x b m = less_turn (told_at k w) w (length_changed k (λ p. record p { owed = None }) w.parts) (told_calms w a cost (room cost) steady k s x b m)
+  pub told_turn : (k : ℕ) (s : Step) (x : Exit) (b : Bool) → OwesAt w k s x b → turn_rank (heard_at k w) < turn_rank w
+  told_turn k s x b m = less_turn (heard_at k w) w (length_changed k (λ p. record p { owed = None }) w.parts) (told_calms w a cost (room cost) steady k s x b m)
 
   pub killed_turn : (n k : ℕ) (s : Step) → MayKill w n k s → turn_rank (killed n w) < turn_rank w
   killed_turn n k s m = less_turn (killed n w) w (length_killed n w) (killed_calms w a cost (room cost) steady n k s m)
@@ -100,7 +100,7 @@ record Seen (w v : Components) : Type 0 where
   steady : v.steady ≡ true
   least : turn_rank v ≤ turn_rank w
 
-quiet : (w v : Components) (ms : List Move) → Quietly w ms v → AreKept w → w.steady ≡ true → Seen w v
+quiet : (w v : Components) (ms : List Move) → MovesInOrder w ms v → AreKept w → w.steady ≡ true → Seen w v
 quiet w v [] q a f = subst (Seen w) (sym q) (record { alone = a; steady = f; least = room (turn_rank w) })
 quiet w v (m ∷ ms) q a f =
     let l = move_turn w a f m.who m.what q.1 in
@@ -117,8 +117,8 @@ hand w (Some (acts.Start k t)) v a f h =
     let r = handed_turn k w in
     subst (λ (z : Components). Calms w z false) (sym h.2) (record { least = omega (arith, r); less = λ e. absurd (cc) })
 hand w (Some (acts.Kill n)) v a f h = subst (λ (z : Components). Calms w z true) (sym h.4) (not_more w (killed n w) (killed_turn w a f n h.0 h.1 h.3))
-hand w (Some (acts.Failed k t e)) v a f h = subst (λ (z : Components). Calms w z true) (sym h.1) (not_more w (told_at k w) (told_turn w a f k t e false h.0))
-hand w (Some (acts.Broke k t e)) v a f h = subst (λ (z : Components). Calms w z true) (sym h.1) (not_more w (told_at k w) (told_turn w a f k t e true h.0))
+hand w (Some (acts.Failed k t e)) v a f h = subst (λ (z : Components). Calms w z true) (sym h.1) (not_more w (heard_at k w) (told_turn w a f k t e false h.0))
+hand w (Some (acts.Broke k t e)) v a f h = subst (λ (z : Components). Calms w z true) (sym h.1) (not_more w (heard_at k w) (told_turn w a f k t e true h.0))
 
 pub act_calms : (w v : Components) (act : Option Act) → AreKept w → w.steady ≡ true → NextAct w act v → Calms w v (is_done act)
 act_calms w v act a f n =

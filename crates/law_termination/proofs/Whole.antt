@@ -5,9 +5,9 @@ use Rattle.std.proofs.lemmas.Bool.{and_parts}
 use Rattle.nuc_base.specs.declared.kinds.Exit.{Exit}
 use Rattle.nuc_base.specs.declared.kinds.Step.{Step}
 use Rattle.lifecycle.specs.declared.kinds.LifeEvent.{LifeEvent}
-use Rattle.components.specs.Acts.{MayMove, MayKill, OwesAt, NextAct, Quietly, HandsOut, Move}
+use Rattle.components.specs.Acts.{MayMove, MayKill, OwesAt, NextAct, MovesInOrder, HandsOut, Move}
 use Rattle.components.specs.Components.{Components, ComponentState, At, owner, is_leaving}
-use Rattle.components.specs.Events.{handed_at, started, refused, skipped, ended, killed, told_at, later}
+use Rattle.components.specs.Events.{handed_at, started, refused, skipped, ended, killed, heard_at, later}
 use Rattle.components.specs.Lives.{lived_at}
 use Rattle.components.specs.Turns.{is_begun}
 use Rattle.components.specs.declared.kinds.Act.{Act}
@@ -50,8 +50,8 @@ module _ (w : Components) (a : AreKept w) where
   pub kill_keeps : (n k : ℕ) (s : Step) → MayKill w n k s → StaysKept w (killed n w)
   kill_keeps n k s m = keep_from w (killed n w) (killed_steady n w) (λ d x. killed_known d w x n k s m) a
 
-  pub told_keeps : (k : ℕ) (s : Step) (x : Exit) (b : Bool) → OwesAt w k s x b → StaysKept w (told_at k w)
-  told_keeps k s x b m = keep_from w (told_at k w) refl (λ d y. told_known d w y k s x b m) a
+  pub told_keeps : (k : ℕ) (s : Step) (x : Exit) (b : Bool) → OwesAt w k s x b → StaysKept w (heard_at k w)
+  told_keeps k s x b m = keep_from w (heard_at k w) refl (λ d y. told_known d w y k s x b m) a
 
   pub start_keeps : (k n : ℕ) (s : Step) → At k (λ p. is_begun s p ≡ true) w.parts → StaysKept w (started k s n w)
   start_keeps k n s m = keep_from w (started k s n w) (started_steady k s n w) (λ d x. started_known d w x k n s m) a
@@ -75,7 +75,7 @@ record Reaches (w v : Components) : Type 0 where
   falling : IsFalling v
   least : rank v ≤ rank w
 
-quiet : (w v : Components) (ms : List Move) → Quietly w ms v → AreKept w → IsFalling w → Reaches w v
+quiet : (w v : Components) (ms : List Move) → MovesInOrder w ms v → AreKept w → IsFalling w → Reaches w v
 quiet w v [] q a f = subst (Reaches w) (sym q) (record { kept = a; falling = f; least = omega arith })
 quiet w v (m ∷ ms) q a f =
     let k = move_keeps w a m.who m.what q.1 in

@@ -11,7 +11,7 @@ use Rattle.lifecycle.specs.declared.kinds.LifeEvent.TheVariants as event
 use Rattle.components.specs.Components.{Components}
 use Rattle.components.specs.Fitted.{Fitted}
 use Rattle.components.specs.declared.kinds.Prepared.{Prepared}
-use Rattle.law_termination.specs.Deeds.{Deed, Moves, Starts, Kills, Tells, Ends, Changes, left}
+use Rattle.law_termination.specs.Deeds.{Deed, MoveDeed, StartDeed, KillDeed, HearDeed, EndDeed, ChangeDeed, left}
 
 abbrev pub name : ℕ → List ℕ
 name n = n ∷ []
@@ -73,48 +73,48 @@ good = exits.Code (pos 0)
 -- all come up: v, then b, x and y
 abbrev pub come_up : Prepared → List Deed
 come_up m =
-    Changes (earlier m) true
-    ∷ Moves 1 event.MayBegin ∷ Moves 1 event.MayBegin ∷ Starts 1 step.Run 1
-    ∷ Moves 0 event.MayBegin ∷ Moves 0 event.MayBegin ∷ Starts 0 step.Run 0
-    ∷ Moves 2 event.MayBegin ∷ Moves 2 event.MayBegin ∷ Starts 2 step.Run 2
-    ∷ Moves 3 event.MayBegin ∷ Moves 3 event.MayBegin ∷ Starts 3 step.Run 3 ∷ []
+    ChangeDeed (earlier m) true
+    ∷ MoveDeed 1 event.MayBegin ∷ MoveDeed 1 event.MayBegin ∷ StartDeed 1 step.Run 1
+    ∷ MoveDeed 0 event.MayBegin ∷ MoveDeed 0 event.MayBegin ∷ StartDeed 0 step.Run 0
+    ∷ MoveDeed 2 event.MayBegin ∷ MoveDeed 2 event.MayBegin ∷ StartDeed 2 step.Run 2
+    ∷ MoveDeed 3 event.MayBegin ∷ MoveDeed 3 event.MayBegin ∷ StartDeed 3 step.Run 3 ∷ []
 
 abbrev pub up : Prepared → Components
 up m = left none_yet (come_up m)
 
 -- x fails, and recovers for long; so y is to be stopped, and shuts down for long
 abbrev pub first_fails : List Deed
-first_fails = Ends 2 bad ∷ Tells 2 step.Run bad false ∷ Moves 2 event.Retry ∷ Starts 2 step.Recover 4 ∷ Moves 3 (event.Stop after.Restart)
-    ∷ Starts 3 step.Shutdown 5 ∷ []
+first_fails = EndDeed 2 bad ∷ HearDeed 2 step.Run bad false ∷ MoveDeed 2 event.Retry ∷ StartDeed 2 step.Recover 4 ∷ MoveDeed 3 (event.Stop after.Restart)
+    ∷ StartDeed 3 step.Shutdown 5 ∷ []
 
 abbrev pub one_down : Prepared → Components
 one_down m = left (up m) first_fails
 
 -- v fails, and runs again; so b is to be stopped with Restart, and shuts down: nobody who needs it is to be stopped
 abbrev pub second_fails : List Deed
-second_fails = Ends 1 bad ∷ Tells 1 step.Run bad false ∷ Moves 0 (event.Stop after.Restart) ∷ Starts 0 step.Shutdown 6 ∷ Moves 1 event.Retry
-    ∷ Moves 1 event.MayBegin ∷ Starts 1 step.Run 7 ∷ []
+second_fails = EndDeed 1 bad ∷ HearDeed 1 step.Run bad false ∷ MoveDeed 0 (event.Stop after.Restart) ∷ StartDeed 0 step.Shutdown 6 ∷ MoveDeed 1 event.Retry
+    ∷ MoveDeed 1 event.MayBegin ∷ StartDeed 1 step.Run 7 ∷ []
 
 abbrev pub two_down : Prepared → Components
 two_down m = left (one_down m) second_fails
 
 -- the later items come: v and x are replaced, and z begins
 abbrev pub others_come : Prepared → List Deed
-others_come m = Changes (later_items m) false ∷ Moves 4 event.MayBegin ∷ Moves 4 event.MayBegin ∷ Starts 4 step.Startup 8 ∷ []
+others_come m = ChangeDeed (later_items m) false ∷ MoveDeed 4 event.MayBegin ∷ MoveDeed 4 event.MayBegin ∷ StartDeed 4 step.Startup 8 ∷ []
 
 abbrev pub changed : Prepared → Components
 changed m = left (two_down m) (others_come m)
 
 -- b is stopped, and x still waits for y
 abbrev pub b_ends : List Deed
-b_ends = Ends 6 good ∷ Kills 0 0 step.Run ∷ []
+b_ends = EndDeed 6 good ∷ KillDeed 0 0 step.Run ∷ []
 
 abbrev pub b_stopped : Prepared → Components
 b_stopped m = left (changed m) b_ends
 
 -- y is stopped
 abbrev pub y_ends : List Deed
-y_ends = Ends 5 good ∷ Kills 3 3 step.Run ∷ []
+y_ends = EndDeed 5 good ∷ KillDeed 3 3 step.Run ∷ []
 
 abbrev pub y_stopped : Prepared → Components
 y_stopped m = left (b_stopped m) y_ends

@@ -34,7 +34,7 @@ pub record IsDriven (r : List ℕ → ℕ) (all : List ComponentState) (p : Comp
   pub apart : (is_some p.next && is_leaving p) ≡ false
   pub in_time : AllByRecursion IsInTime p.children
 
-pub record Drives (w : Components) : Type 0 where
+pub record AreDriven (w : Components) : Type 0 where
   pub alone : AreKept w
   pub names : HaveOwnNames w.parts
   pub r : List ℕ → ℕ
@@ -45,11 +45,11 @@ pub record Drives (w : Components) : Type 0 where
 
 -- what is kept goes on, and none is to leave that was not before
 pub record GoesOn (w v : Components) : Type 0 where
-  pub drives : Drives v
+  pub drives : AreDriven v
   pub stays : list_any is_leaving v.parts ≡ list_any is_leaving w.parts
 
 -- and the number of the loops is less
-pub record Falls (w v : Components) : Type 0 where
+pub record HasFewerLoops (w v : Components) : Type 0 where
   pub on : GoesOn w v
   pub less : rank v < rank w
 

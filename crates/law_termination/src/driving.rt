@@ -12,7 +12,7 @@ ghost use Rattle.components.specs.Acts.{MayKill, MayMove, NextAct, OwesAt};
 ghost use Rattle.components.specs.declared.kinds.Act.{Act};
 ghost use Rattle.components.specs.Answers.{has_answered};
 ghost use Rattle.components.specs.Changes.{all_stopped, changed_to, steadied};
-ghost use Rattle.components.specs.Events.{ended, killed, later, refused, skipped, started, told_at};
+ghost use Rattle.components.specs.Events.{ended, killed, later, refused, skipped, started, heard_at};
 ghost use Rattle.components.specs.Fitted.{Fitted};
 ghost use Rattle.components.specs.Lives.{lived_at};
 ghost use Rattle.components.specs.Made.{AreFitted};
@@ -21,39 +21,39 @@ ghost use Rattle.components.specs.Turns.{IsQuiet, is_begun};
 ghost use Rattle.components.specs.Components.{At, Components, is_leaving, is_settled, is_stopped, owner};
 ghost use Rattle.law_supervisor.specs.Keeps.{ItemsDiffer};
 ghost use Rattle.law_termination.specs.Time.{HasTime};
-ghost use Rattle.law_termination.specs.Drives.{Drives, GoesOn, MayCome, MayTakeOver, has_failed};
+ghost use Rattle.law_termination.specs.Drives.{AreDriven, GoesOn, MayCome, MayTakeOver, has_failed};
 
 use recipe_reader::recipe_laws;
 
 /// Where there are no components, it holds.
 pub fn none_drives()
-    ensures { (w : Components) → w.parts ≡ [] → Drives w }
+    ensures { (w : Components) → w.parts ≡ [] → AreDriven w }
 {}
 
 /// Whatever befalls the components keeps what is kept, also where an item is taken, or one is gone.
 pub fn drives_keep()
-    ensures acts { (w v : Components) (act : Option Act) → NextAct w act v → Drives w → GoesOn w v }
-    ensures moves { (w : Components) → Drives w → (k : ℕ) (e : LifeEvent) → MayMove w k e → GoesOn w (lived_at k e w) }
-    ensures kills { (w : Components) → Drives w → (n k : ℕ) (s : Step) → MayKill w n k s → GoesOn w (killed n w) }
-    ensures tells { (w : Components) → Drives w → (k : ℕ) (s : Step) (x : Exit) (breaks : Bool) → OwesAt w k s x breaks → GoesOn w (told_at k w) }
-    ensures starts { (w : Components) → Drives w → (k n : ℕ) (s : Step) → At k (λ p. is_begun s p ≡ true) w.parts → GoesOn w (started k s n w) }
-    ensures refuses { (w : Components) → Drives w → (k : ℕ) (s : Step) → At k (λ p. is_begun s p ≡ true) w.parts → GoesOn w (refused k s w) }
-    ensures skips { (w : Components) → Drives w → (k : ℕ) (s : Step) → At k (λ p. is_begun s p ≡ true) w.parts → GoesOn w (skipped k w) }
-    ensures ends { (w : Components) → Drives w → (n : ℕ) (x : Exit) (k : ℕ) (s : Step) → owner n w.parts ≡ Some (k, s) → GoesOn w (ended n x w) }
-    ensures passes { (w : Components) (m : ℕ) → Drives w → GoesOn w (later m w) }
-    ensures steadies { (w : Components) → Drives w → GoesOn w (steadied w) }
+    ensures acts { (w v : Components) (act : Option Act) → NextAct w act v → AreDriven w → GoesOn w v }
+    ensures moves { (w : Components) → AreDriven w → (k : ℕ) (e : LifeEvent) → MayMove w k e → GoesOn w (lived_at k e w) }
+    ensures kills { (w : Components) → AreDriven w → (n k : ℕ) (s : Step) → MayKill w n k s → GoesOn w (killed n w) }
+    ensures hears { (w : Components) → AreDriven w → (k : ℕ) (s : Step) (x : Exit) (breaks : Bool) → OwesAt w k s x breaks → GoesOn w (heard_at k w) }
+    ensures starts { (w : Components) → AreDriven w → (k n : ℕ) (s : Step) → At k (λ p. is_begun s p ≡ true) w.parts → GoesOn w (started k s n w) }
+    ensures refuses { (w : Components) → AreDriven w → (k : ℕ) (s : Step) → At k (λ p. is_begun s p ≡ true) w.parts → GoesOn w (refused k s w) }
+    ensures skips { (w : Components) → AreDriven w → (k : ℕ) (s : Step) → At k (λ p. is_begun s p ≡ true) w.parts → GoesOn w (skipped k w) }
+    ensures ends { (w : Components) → AreDriven w → (n : ℕ) (x : Exit) (k : ℕ) (s : Step) → owner n w.parts ≡ Some (k, s) → GoesOn w (ended n x w) }
+    ensures passes { (w : Components) (m : ℕ) → AreDriven w → GoesOn w (later m w) }
+    ensures steadies { (w : Components) → AreDriven w → GoesOn w (steadied w) }
 {}
 
 /// So does the stop of all, but that all are to leave then.
 pub fn drives_stop()
-    ensures { (w : Components) → Drives w → Drives (all_stopped w) }
+    ensures { (w : Components) → AreDriven w → AreDriven (all_stopped w) }
 {}
 
 /// A change to items that may come, each with fewer failures than break, keeps it too, whoever stands and whatever is under
 /// way.
 pub fn changes_drive()
-    ensures { (items : List Fitted) (counts : List ℕ) (steady : Bool) (w : Components) → Drives w → MayTakeOver items w.parts →
-        AllByRecursion (λ (n : ℕ). n < 3) counts → ItemsDiffer items → Drives (changed_to items counts steady w) }
+    ensures { (items : List Fitted) (counts : List ℕ) (steady : Bool) (w : Components) → AreDriven w → MayTakeOver items w.parts →
+        AllByRecursion (λ (n : ℕ). n < 3) counts → ItemsDiffer items → AreDriven (changed_to items counts steady w) }
 {}
 
 /// Items that were made ready for a device that runs them may come, and so they may while others stand that were made ready
@@ -69,8 +69,8 @@ pub fn ready_items_may_come()
 /// Where each start that was handed out is answered and nothing may act, what was to be is reached, or a deadline is still to
 /// come, which is a moment. One that is BROKEN and is replaced or goes is no failure: it is stopped first.
 pub fn drives_end()
-    ensures rises { (w : Components) → Drives w → has_answered w ≡ true → IsQuiet w → (is_settled w ≡ true) ⊎ (has_failed w ≡ true) ⊎
+    ensures rises { (w : Components) → AreDriven w → has_answered w ≡ true → IsQuiet w → (is_settled w ≡ true) ⊎ (has_failed w ≡ true) ⊎
         (HasTime w × (w.moment + 1 < 2 ^ 62)) }
-    ensures leaves { (w : Components) → Drives w → list_all is_leaving w.parts ≡ true → has_answered w ≡ true → IsQuiet w → (is_stopped w ≡ true) ⊎
+    ensures leaves { (w : Components) → AreDriven w → list_all is_leaving w.parts ≡ true → has_answered w ≡ true → IsQuiet w → (is_stopped w ≡ true) ⊎
         (HasTime w × (w.moment + 1 < 2 ^ 62)) }
 {}

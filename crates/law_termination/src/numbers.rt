@@ -8,7 +8,7 @@ ghost use Rattle.lifecycle.specs.declared.kinds.LifeEvent.{LifeEvent};
 ghost use Rattle.components.specs.Acts.{MayKill, MayMove, NextAct, OwesAt};
 ghost use Rattle.components.specs.declared.kinds.Act.{Act};
 ghost use Rattle.components.specs.Deadlines.{least_deadline, until};
-ghost use Rattle.components.specs.Events.{ended, killed, later, refused, skipped, started, told_at};
+ghost use Rattle.components.specs.Events.{ended, killed, later, refused, skipped, started, heard_at};
 ghost use Rattle.components.specs.Lives.{lived_at};
 ghost use Rattle.components.specs.Turns.{is_begun};
 ghost use Rattle.components.specs.Components.{At, Components, owner};
@@ -21,7 +21,7 @@ ghost use Rattle.law_termination.specs.TurnRank.{late_count, turn_rank};
 pub fn each_keeps()
     ensures moves { (w : Components) → AreKept w → (k : ℕ) (e : LifeEvent) → MayMove w k e → StaysKept w (lived_at k e w) }
     ensures kills { (w : Components) → AreKept w → (n k : ℕ) (s : Step) → MayKill w n k s → StaysKept w (killed n w) }
-    ensures tells { (w : Components) → AreKept w → (k : ℕ) (s : Step) (x : Exit) (breaks : Bool) → OwesAt w k s x breaks → StaysKept w (told_at k w) }
+    ensures hears { (w : Components) → AreKept w → (k : ℕ) (s : Step) (x : Exit) (breaks : Bool) → OwesAt w k s x breaks → StaysKept w (heard_at k w) }
     ensures starts { (w : Components) → AreKept w → (k n : ℕ) (s : Step) → At k (λ p. is_begun s p ≡ true) w.parts → StaysKept w (started k s n w) }
     ensures refuses { (w : Components) → AreKept w → (k : ℕ) (s : Step) → At k (λ p. is_begun s p ≡ true) w.parts → StaysKept w (refused k s w) }
     ensures skips { (w : Components) → AreKept w → (k : ℕ) (s : Step) → At k (λ p. is_begun s p ≡ true) w.parts → StaysKept w (skipped k w) }
@@ -36,8 +36,8 @@ pub fn drives_fall()
         (is_done act ≡ true → rank v < rank w) }
     ensures moves { (w : Components) → AreKept w → IsFalling w → (k : ℕ) (e : LifeEvent) → MayMove w k e → rank (lived_at k e w) < rank w }
     ensures kills { (w : Components) → AreKept w → IsFalling w → (n k : ℕ) (s : Step) → MayKill w n k s → rank (killed n w) < rank w }
-    ensures tells { (w : Components) → AreKept w → IsFalling w → (k : ℕ) (s : Step) (x : Exit) (breaks : Bool) → OwesAt w k s x breaks →
-        rank (told_at k w) < rank w }
+    ensures hears { (w : Components) → AreKept w → IsFalling w → (k : ℕ) (s : Step) (x : Exit) (breaks : Bool) → OwesAt w k s x breaks →
+        rank (heard_at k w) < rank w }
     ensures starts { (w : Components) → AreKept w → IsFalling w → (k n : ℕ) (s : Step) → At k (λ p. is_begun s p ≡ true) w.parts →
         rank (started k s n w) < rank w }
     ensures refuses { (w : Components) → AreKept w → IsFalling w → (k : ℕ) (s : Step) → At k (λ p. is_begun s p ≡ true) w.parts →
@@ -55,8 +55,8 @@ pub fn turns_calm()
         (is_done act ≡ true → turn_rank v < turn_rank w) }
     ensures moves { (w : Components) → AreKept w → w.steady ≡ true → (k : ℕ) (e : LifeEvent) → MayMove w k e → turn_rank (lived_at k e w) < turn_rank w }
     ensures kills { (w : Components) → AreKept w → w.steady ≡ true → (n k : ℕ) (s : Step) → MayKill w n k s → turn_rank (killed n w) < turn_rank w }
-    ensures tells { (w : Components) → AreKept w → w.steady ≡ true → (k : ℕ) (s : Step) (x : Exit) (breaks : Bool) → OwesAt w k s x breaks →
-        turn_rank (told_at k w) < turn_rank w }
+    ensures hears { (w : Components) → AreKept w → w.steady ≡ true → (k : ℕ) (s : Step) (x : Exit) (breaks : Bool) → OwesAt w k s x breaks →
+        turn_rank (heard_at k w) < turn_rank w }
     ensures starts { (w : Components) → AreKept w → w.steady ≡ true → w.moment + 1 < 2 ^ 62 → (k n : ℕ) (s : Step) →
         At k (λ p. is_begun s p ≡ true) w.parts → turn_rank (started k s n w) < turn_rank w }
     ensures refuses { (w : Components) → AreKept w → w.steady ≡ true → (k : ℕ) (s : Step) → At k (λ p. is_begun s p ≡ true) w.parts →

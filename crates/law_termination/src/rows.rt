@@ -10,7 +10,7 @@ ghost use Rattle.components.specs.declared.kinds.Prepared.{Prepared};
 ghost use Rattle.components.specs.Turns.{IsQuiet, is_held_far};
 ghost use Rattle.law_supervisor.specs.Sound.{HaveOwnNames};
 ghost use Rattle.law_termination.specs.Circle.{name};
-ghost use Rattle.law_termination.specs.Drives.{Drives, MayTakeOver};
+ghost use Rattle.law_termination.specs.Drives.{AreDriven, MayTakeOver};
 ghost use Rattle.law_termination.specs.Kept.{IsFalling};
 ghost use Rattle.law_termination.specs.Replaced.{both_up, handed, newer, one_stopped, replaced, taken};
 ghost use Rattle.law_termination.specs.Small.{one_waits};
@@ -19,7 +19,7 @@ ghost use Rattle.law_termination.specs.Time.{HasTime};
 /// One component waits for another, whose install lives and has a limit: all that the laws have as their premise holds, and
 /// time can go on.
 pub fn one_waits_for_another()
-    ensures kept { (m : Prepared) → IsSomeAnd m.limit_ms (λ l. 1 ≤ l) → Drives (one_waits m) }
+    ensures kept { (m : Prepared) → IsSomeAnd m.limit_ms (λ l. 1 ≤ l) → AreDriven (one_waits m) }
     ensures falling { (m : Prepared) → IsFalling (one_waits m) }
     ensures answered { (m : Prepared) → has_answered (one_waits m) ≡ true }
     ensures quiet { (m : Prepared) → IsQuiet (one_waits m) }
@@ -28,10 +28,10 @@ pub fn one_waits_for_another()
 
 /// One is replaced, and another that needs it is stopped before; then it takes its item and begins.
 pub fn one_is_replaced()
-    ensures stands { (m : Prepared) → Drives (both_up m) }
+    ensures stands { (m : Prepared) → AreDriven (both_up m) }
     ensures may { (m : Prepared) → MayTakeOver (newer m) (both_up m).parts }
     ensures names { (m : Prepared) → HaveOwnNames (replaced m).parts }
-    ensures drives { (m : Prepared) → Drives (replaced m) }
+    ensures drives { (m : Prepared) → AreDriven (replaced m) }
     ensures falling { (m : Prepared) → IsFalling (replaced m) }
     ensures stops { (m : Prepared) → map (λ p. p.stop) (replaced m).parts ≡ Some after.Again ∷ Some after.Restart ∷ [] }
     ensures held { (m : Prepared) → is_held_far (name 97) (replaced m).parts ≡ true }

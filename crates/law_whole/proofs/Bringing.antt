@@ -29,7 +29,7 @@ use Rattle.device.specs.Devices.{Device, IsRegularDevice}
 use Rattle.device.specs.Grouped.{with_group}
 use Rattle.device.specs.Plans.{AreRegularItems}
 use Rattle.device.specs.Sound.{IsSound}
-use Rattle.device.specs.Filled.{Fills, FillsItem}
+use Rattle.device.specs.Filled.{PlanFilled, ItemFilled}
 use Rattle.plan_core.specs.Plans.{IsPlanned}
 use Rattle.plan_core.specs.Requests.{root_requirement, wanted_of}
 use Rattle.plan_core.specs.Set.{change_in, chosen, config_of, item_named, item_of, items_of, root_named}
@@ -102,7 +102,7 @@ change_ok n roots sound (Some r) is = update_ok n roots r sound is r.update refl
 module _ (filled_law : ConfigIsFilled) (reads_sound : ReadsSound) (elements : DependsOnElements)
     (o : Origin) (d : Device) (cs : List Candidate) (document : Document) (draft : Draft) (plan : Plan)
     (sound : IsSound d) (regular : IsRegularDevice d) (whole : Whole d) (origin : d.origin ≡ Some o) (gathered : IsGatheredOf o d.set cs)
-    (roots : AreSound document.roots) (planned : IsPlanned o d cs document draft) (fills : Fills draft plan) where
+    (roots : AreSound document.roots) (planned : IsPlanned o d cs document draft) (fills : PlanFilled draft plan) where
   config_ok : (c : Candidate) → IsReadFor o.platform c → filled (config_of d.set document.roots c.recipe) (view c.recipe.default_config) ≡ config_of d.set
       document.roots c.recipe
   config_ok c read = filled_law (option_map (λ (i : Item). i.config) (item_named c.recipe.name d.set)) (view c.recipe.default_config)
@@ -124,14 +124,14 @@ module _ (filled_law : ConfigIsFilled) (reads_sound : ReadsSound) (elements : De
   are_items =
       let items : draft.items ≡ items_of d.set document.roots (chosen cs planned.plan.is_choice.0) = planned.plan.items
       ∙ ap (items_of d.set document.roots) planned.plan.is_choice.2 in
-      zip_over (item_of d.set document.roots) FillsItem IsItemOf (chosen cs planned.plan.is_choice.0) plan.items
+      zip_over (item_of d.set document.roots) ItemFilled IsItemOf (chosen cs planned.plan.is_choice.0) plan.items
       (λ c i item f. record {
         name = f.name;
         version = f.version;
         recipe = f.recipe;
         config = subst (λ x. filled x (view c.recipe.default_config) ≡ x) (sym f.config) (config_ok c (read_of c i));
       })
-      (subst (λ (l : List DraftItem). AllZip FillsItem l plan.items) items fills.items)
+      (subst (λ (l : List DraftItem). AllZip ItemFilled l plan.items) items fills.items)
 
   valid_for_all : IsValidWhole (members (chosen cs planned.plan.is_choice.0)) (asked_of (with_group d.groups plan))
   valid_for_all =

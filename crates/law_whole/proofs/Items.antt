@@ -13,14 +13,14 @@ use Rattle.nuc_base.proofs.Lists.{in_cons, in_here, in_map, in_nil, in_there}
 use Rattle.tree_core.specs.View.{view}
 use Rattle.config_ops.specs.NewConfig.{new_config}
 use Rattle.recipe_reader.specs.Candidates.{IsReadFor}
-use Rattle.recipe_reader.specs.OneRecipe.{IsOneRecipe, Reads}
+use Rattle.recipe_reader.specs.OneRecipe.{IsOneRecipe, IsRecipeFor}
 use Rattle.recipe_reader.specs.SetLaws.{DependsOnElements}
 use Rattle.recipe_reader.specs.Sound.{ReadsSound, artifact_file}
 use Rattle.recipe_reader.specs.declared.candidate.Candidate.{Candidate}
 use Rattle.records.specs.Stored.{DraftItem, Item}
 use Rattle.records.specs.declared.record.Held.{Held}
 use Rattle.records.specs.declared.record.Origin.{Origin}
-use Rattle.device.specs.Filled.{FillsItem}
+use Rattle.device.specs.Filled.{ItemFilled}
 use Rattle.device.specs.Devices.{Device}
 use Rattle.device.specs.Plans.{HasRecipe, IsHeldFor}
 use Rattle.device.specs.Sound.{AreItemsFor, IsSound}
@@ -112,8 +112,9 @@ module _ (i : Item) where
 
 -- ---- three lists beside one another
 
-zip_both : (f : Candidate → DraftItem) (S : Item → Item → Type 0) (xs : List Candidate) (ys zs : List Item) → AllZip IsOf xs ys → AllZip FillsItem (map f xs) zs
-    → ((c : Candidate) (i j : Item) → Contains xs c → Contains ys i → IsOf c i → FillsItem (f c) j → S i j) → AllZip S ys zs
+zip_both : (f : Candidate → DraftItem) (S : Item → Item → Type 0) (xs : List Candidate) (ys zs : List Item) → AllZip IsOf xs ys
+    → AllZip ItemFilled (map f xs) zs
+    → ((c : Candidate) (i j : Item) → Contains xs c → Contains ys i → IsOf c i → ItemFilled (f c) j → S i j) → AllZip S ys zs
 zip_both f S [] [] [] z w h = tt
 zip_both f S [] [] (j ∷ zs) z w h = absurd w
 zip_both f S [] (i ∷ ys) zs z w h = absurd z
@@ -128,7 +129,7 @@ pub own_items_stay : IsOneRecipe → ReadsSound → DependsOnElements → OwnIte
 own_items_stay one reads_sound elements o d cs document draft plan sound whole is gathered same planned fills =
     zip_both (item_of d.set document.roots) (IsKeptItem o.platform document.roots) planned.plan.choice d.set plan.items
     (own_set_is_chosen one elements o d cs planned.plan.choice document sound whole is gathered same planned.plan.is_choice)
-    (subst (λ (l : List DraftItem). AllZip FillsItem l plan.items) planned.plan.items fills.items) each_item
+    (subst (λ (l : List DraftItem). AllZip ItemFilled l plan.items) planned.plan.items fills.items) each_item
   where
     names : (i j : Item) → Contains d.set i → Contains d.set j → i.name ≡ j.name → i ≡ j
     names = one_named d.set (names_of d o sound is)
@@ -149,11 +150,11 @@ own_items_stay one reads_sound elements o d cs document draft plan sound whole i
         (λ y l passes. names y i l k (sym ((bytes_eq-Decides c.recipe.name y.name).0 (and_both (bytes_eq c.recipe.name y.name) (bytes_eq c.recipe.version
         y.version) passes).0) ∙ sym of.0))
 
-    files_stay : (c : Candidate) (i j : Item) → Contains planned.plan.choice c → Contains d.set i → IsOf c i → FillsItem (item_of d.set document.roots c) j →
+    files_stay : (c : Candidate) (i j : Item) → Contains planned.plan.choice c → Contains d.set i → IsOf c i → ItemFilled (item_of d.set document.roots c) j →
         j.artifacts ≡ i.artifacts
     files_stay c i j k l of f =
         let r = has_recipe i l in
-        let read : Reads i.recipe o.platform c.recipe = subst (λ (b : List ℕ). Reads b o.platform c.recipe) (sym of.2) (read_choice c k) in
+        let read : IsRecipeFor i.recipe o.platform c.recipe = subst (λ (b : List ℕ). IsRecipeFor b o.platform c.recipe) (sym of.2) (read_choice c k) in
         let alike = one i.recipe o.platform c.recipe r.0 read r.1.reads in
         let zipped : AllZip IsHeldFor c.recipe.artifacts i.artifacts = subst (λ (files : List Artifact). AllZip IsHeldFor files i.artifacts)
         (sym alike.artifacts) r.1.files in
@@ -162,11 +163,11 @@ own_items_stay one reads_sound elements o d cs document draft plan sound whole i
         kept_files i c.recipe.artifacts i.artifacts j.artifacts zipped (digest_found i differ)
         (subst (λ (x : Option Item). AllZip IsHeldFor (map (artifact_of x) c.recipe.artifacts) j.artifacts) (item_at c i l of) f.files)
 
-    each_item : (c : Candidate) (i j : Item) → Contains planned.plan.choice c → Contains d.set i → IsOf c i → FillsItem (item_of d.set document.roots c) j →
+    each_item : (c : Candidate) (i j : Item) → Contains planned.plan.choice c → Contains d.set i → IsOf c i → ItemFilled (item_of d.set document.roots c) j →
         IsKeptItem o.platform document.roots i j
     each_item c i j k l of f =
         let stays = own_config_stays one elements o d cs planned.plan.choice document sound whole is gathered same planned.plan.is_choice c i k l (sym of.0) in
-        let read : Reads i.recipe o.platform c.recipe = subst (λ (b : List ℕ). Reads b o.platform c.recipe) (sym of.2) (read_choice c k) in record {
+        let read : IsRecipeFor i.recipe o.platform c.recipe = subst (λ (b : List ℕ). IsRecipeFor b o.platform c.recipe) (sym of.2) (read_choice c k) in record {
           name = f.name ∙ sym of.0;
           version = f.version ∙ sym of.1;
           recipe = f.recipe ∙ sym of.2;

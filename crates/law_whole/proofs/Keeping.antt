@@ -11,7 +11,7 @@ use Rattle.tree_core.specs.View.{view}
 use Rattle.config_ops.specs.Join.{filled}
 use Rattle.config_ops.specs.NewConfig.{Change, new_config}
 use Rattle.recipe_reader.specs.Candidates.{IsReadFor}
-use Rattle.recipe_reader.specs.OneRecipe.{IsOneRecipe, Reads}
+use Rattle.recipe_reader.specs.OneRecipe.{IsOneRecipe, IsRecipeFor}
 use Rattle.recipe_reader.specs.SetLaws.{DependsOnElements}
 use Rattle.recipe_reader.specs.declared.candidate.Candidate.{Candidate}
 use Rattle.records.specs.Stored.{Item}
@@ -61,7 +61,7 @@ own_config_stays one elements o d cs choice document sound whole is gathered sam
     let one_item : j.0 ≡ i = names j.0 i j.1 among (j.2.0 ∙ named) in
     let bytes : c.bytes ≡ e.0.bytes = sym j.2.2 ∙ e.2.recipe in
     let read : IsReadFor o.platform c = read_choice c there in
-    let alike = one e.0.bytes o.platform c.recipe e.0.recipe (subst (λ (b : List ℕ). Reads b o.platform c.recipe) bytes read) (All-contains
+    let alike = one e.0.bytes o.platform c.recipe e.0.recipe (subst (λ (b : List ℕ). IsRecipeFor b o.platform c.recipe) bytes read) (All-contains
     (IsReadFor o.platform) on.candidates e.0 on.read e.1) in
     let kept : filled i.config (view c.recipe.default_config) ≡ i.config =
     subst (λ (x : Data). filled i.config x ≡ i.config) (sym alike.default_config) (subst (λ (x : Item). filled x.config (view e.0.recipe.default_config)

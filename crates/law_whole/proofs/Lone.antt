@@ -2,12 +2,12 @@
 use Rattle.std.proofs.Common.{◌≡◌, ℕ, ◌+◌, ◌<◌, List, [], ◌∷◌, ◌++◌, map, sym, ap, subst, ◌∙◌, arith}
 use Rattle.std.specs.Prelude.{Option, Some}
 use Rattle.std.specs.List.{All, Contains}
-use Rattle.nuc_base.specs.Leads.{Leads, direct, through}
+use Rattle.nuc_base.specs.Leads.{HasPath, direct, through}
 use Rattle.nuc_base.proofs.Lists.{all_from_in, in_here, in_nil, in_one}
-use Rattle.npm_ranges.specs.Ranges.{Meets}
+use Rattle.npm_ranges.specs.Ranges.{IsInRange}
 use Rattle.recipe_reader.specs.Candidates.{IsReadFor}
 use Rattle.recipe_reader.specs.Members.{Member, Need, members, need}
-use Rattle.recipe_reader.specs.Sets.{IsMet, IsReached, IsValid, Needs, by_wanted, name_of, needs_of}
+use Rattle.recipe_reader.specs.Sets.{IsMet, IsReached, IsValid, HasDependency, by_wanted, name_of, needs_of}
 use Rattle.recipe_reader.specs.declared.candidate.Candidate.{Candidate}
 use Rattle.recipe_reader.specs.declared.recipe.Dependency.{Dependency}
 use Rattle.records.specs.Stored.{Item}
@@ -16,13 +16,14 @@ use Rattle.plan_core.specs.Requests.{requirement_need}
 use Rattle.law_whole.specs.Taking.{OneItemIsWhole}
 use Rattle.law_whole.specs.Whole.{IsBuiltIn, asked_of}
 
-module _ (c : Candidate) (r : Requirement) (lone : c.recipe.dependencies ≡ []) (named : r.name ≡ c.recipe.name) (meets : Meets c.recipe.version r.range) where
+module _ (c : Candidate) (r : Requirement) (lone : c.recipe.dependencies ≡ []) (named : r.name ≡ c.recipe.name)
+    (meets : IsInRange c.recipe.version r.range) where
   none_needed : (p : ℕ) → Contains (0 ∷ []) p → (d : Need) → Contains (needs_of (members (c ∷ [])) p) d → ⊥
   none_needed p i d k =
       let here : Contains (needs_of (members (c ∷ [])) 0) d = subst (λ (q : ℕ). Contains (needs_of (members (c ∷ [])) q) d) (sym (in_one 0 p i)) k in
       in_nil d (subst (λ (ds : List Dependency). Contains (map need ds) d) lone here)
 
-  no_loop : {a b : ℕ} → Leads (Needs (members (c ∷ [])) (0 ∷ [])) a b → ⊥
+  no_loop : {a b : ℕ} → HasPath (HasDependency (members (c ∷ [])) (0 ∷ [])) a b → ⊥
   no_loop {a} (direct n) = none_needed a n.from n.by n.is
   no_loop {a} (through n more) = none_needed a n.from n.by n.is
 

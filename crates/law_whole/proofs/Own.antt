@@ -11,7 +11,7 @@ use Rattle.nuc_base.specs.declared.platform.Platform.{Platform}
 use Rattle.nuc_base.proofs.Lists.{all_from_in, from_map, in_cons, in_here, in_map, in_nil, in_there}
 use Rattle.recipe_reader.specs.Candidates.{IsReadFor, nucleus_name, nucleus_bytes}
 use Rattle.recipe_reader.specs.Members.{IsBefore, IsRising, Member, Need, member, members, need}
-use Rattle.recipe_reader.specs.OneRecipe.{IsOneRecipe, Reads}
+use Rattle.recipe_reader.specs.OneRecipe.{IsOneRecipe, IsRecipeFor}
 use Rattle.recipe_reader.specs.SetLaws.{DependsOnElements}
 use Rattle.recipe_reader.specs.Sets.{IsPreferred, IsReached, IsValid, name_in, name_of}
 use Rattle.recipe_reader.specs.declared.candidate.Candidate.{Candidate}
@@ -21,7 +21,7 @@ use Rattle.library_core.specs.Sources.{IsSource, Source, kept_source, nucleus, o
 use Rattle.library_core.specs.Gathered.{AreGathered}
 use Rattle.deployment_doc.specs.declared.document.Document.{Document}
 use Rattle.device.specs.Devices.{Device, Group}
-use Rattle.device.specs.Plans.{Rise, item_name}
+use Rattle.device.specs.Plans.{AreRising, item_name}
 use Rattle.device.specs.Sound.{IsSound}
 use Rattle.plan_core.specs.Plans.{HasNoSet, IsChoice}
 use Rattle.plan_core.specs.Requests.{wanted_of}
@@ -41,7 +41,7 @@ use Rattle.law_whole.proofs.Transfer.{Beside, beside}
 pub member_same : (one : IsOneRecipe) (p : Platform) (c e : Candidate) → IsReadFor p c → IsReadFor p e → source c ≡ source e → member c ≡ member e
 member_same one p c e read other same =
     let bytes : c.bytes ≡ e.bytes = ap (λ (s : Source). s.bytes) same in
-    let alike = one e.bytes p c.recipe e.recipe (subst (λ (b : List ℕ). Reads b p c.recipe) bytes read) other in
+    let alike = one e.bytes p c.recipe e.recipe (subst (λ (b : List ℕ). IsRecipeFor b p c.recipe) bytes read) other in
     λ i. record { name = alike.name i; version = alike.version i; needs = map need (alike.dependencies i) }
 
 module _ (one : IsOneRecipe) (o : Origin) (groups : List Group) (items : List Item) (cs : List Candidate) (on : AreWholeOn o groups items)
@@ -139,5 +139,5 @@ module _ (one : IsOneRecipe) (o : Origin) (groups : List Group) (items : List It
           ),
         )
 
-    pub are_of : Rise (map candidate_name (chosen cs set)) → Rise (map item_name items) → AreOf (chosen cs set) items
+    pub are_of : AreRising (map candidate_name (chosen cs set)) → AreRising (map item_name items) → AreOf (chosen cs set) items
     are_of first second = zip_sorted (chosen cs set) items first second item_for member_for

@@ -9,7 +9,7 @@ use Rattle.recipe_reader.specs.declared.candidate.Candidate.{Candidate}
 use Rattle.records.specs.Stored.{Item}
 use Rattle.records.specs.declared.record.Origin.{Origin}
 use Rattle.device.specs.Devices.{Device}
-use Rattle.device.specs.Plans.{AreItems, Rise, item_name}
+use Rattle.device.specs.Plans.{AreItems, AreRising, item_name}
 use Rattle.device.specs.Sound.{AreItemsFor, IsSound}
 use Rattle.plan_core.specs.Looks.{AreOf}
 use Rattle.plan_core.specs.Requests.{wanted_of}
@@ -21,7 +21,7 @@ use Rattle.law_whole.proofs.Own.{are_of}
 use Rattle.law_whole.proofs.Rising.{chosen_rise, one_named}
 use Rattle.law_whole.proofs.There.{own_valid}
 
-pub names_of : (d : Device) (o : Origin) → IsSound d → d.origin ≡ Some o → Rise (map item_name d.set)
+pub names_of : (d : Device) (o : Origin) → IsSound d → d.origin ≡ Some o → AreRising (map item_name d.set)
 names_of d o sound is = (subst (λ (x : Option Origin). AreItemsFor x d.set) is sound.set).rise
 
 pub own_set_is_chosen : IsOneRecipe → DependsOnElements → OwnSetIsChosen

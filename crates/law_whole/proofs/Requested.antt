@@ -18,7 +18,7 @@ use Rattle.config_cmd.specs.declared.fault.SetFault.{SetFault}
 use Rattle.config_cmd.specs.declared.fault.SetFault.TheVariants as setting
 use Rattle.deployment_doc.specs.declared.fault.DocFault.{DocFault}
 use Rattle.deployment_doc.specs.declared.fault.DocFault.TheVariants as doc
-use Rattle.recipe_reader.specs.OneRecipe.{IsOneRecipe, Reads}
+use Rattle.recipe_reader.specs.OneRecipe.{IsOneRecipe, IsRecipeFor}
 use Rattle.recipe_reader.specs.SetLaws.{DependsOnElements}
 use Rattle.recipe_reader.specs.Sound.{ReadsSound}
 use Rattle.recipe_reader.specs.declared.candidate.Candidate.{Candidate}
@@ -44,7 +44,8 @@ use Rattle.device.proofs.Course.{run}
 use Rattle.local_deploy.specs.Documents.{IsLocalDocument, root_for as local_root}
 use Rattle.local_deploy.specs.Lists.{Asked, IsLocalList, asked_in, local_arn, local_asked, local_requirements}
 use Rattle.local_deploy.specs.declared.request.LocalRequest.{LocalRequest}
-use Rattle.plan_core.specs.Checks.{AreCandidatesOf, Facts, IsGatherFault, PassesAll, Stops, facts, document_refusal, gather_refusal, plan_checks, plan_refusal}
+use Rattle.plan_core.specs.Checks.{AreCandidatesOf, Facts, IsGatherFault, PassesAll, RefusalOf, facts, document_refusal, gather_refusal}
+use Rattle.plan_core.specs.Checks.{plan_checks, plan_refusal}
 use Rattle.plan_core.specs.Plans.{HasNoSet, IsPlanned, IsRefused, PlanOf, config_lines, room_lines}
 use Rattle.plan_core.specs.Requests.{root_requirement}
 use Rattle.plan_core.specs.Set.{bare, change_in, items_of, root_named}
@@ -53,11 +54,11 @@ use Rattle.plan_core.specs.declared.fault.PlanFault.TheVariants as planning
 use Rattle.plan_core.specs.declared.fault.Refusal.{Refusal}
 use Rattle.plan_core.specs.declared.fault.Refusal.TheVariants as refusal
 use Rattle.nuc_base.specs.Tables.{AllHold, IsFirst, Table, each}
-use Rattle.device.specs.Filled.{Fills}
+use Rattle.device.specs.Filled.{PlanFilled}
 use Rattle.artifact_store.specs.Staged.{IsOutside, draft_lines}
 use Rattle.artifact_store.specs.declared.fault.StageFault.{StageFault}
 use Rattle.admission.specs.Requests.{AsksChange, AsksLocal, IsChangeOn, TakesBy, unset}
-use Rattle.admission.specs.Takes.{IsFilled, Takes, TakesIn}
+use Rattle.admission.specs.Takes.{IsFilled, AdmissionOutcome, TakesIn}
 use Rattle.admission.specs.declared.fault.Declined.{Declined}
 use Rattle.admission.specs.declared.fault.Declined.TheVariants.{Refused, Unstaged}
 use Rattle.law_whole.specs.Requested.{AcceptsNone, ChangesKeepAll, IsChangedItem, KeepsAll, LocalLeaves, LocalLeavesBy, LocalsMoveOneList, PlansMoveOneGroup}
@@ -153,7 +154,8 @@ record HasHead (document : Document) (p : Plan) : Type 0 where
   revision : p.revision ≡ document.revision
   requirements : p.requirements ≡ map root_requirement document.roots
 
-head_of : (o : Origin) (d : Device) (cs : List Candidate) (document : Document) (draft : Draft) (p : Plan) → IsPlanned o d cs document draft → Fills draft p →
+head_of : (o : Origin) (d : Device) (cs : List Candidate) (document : Document) (draft : Draft) (p : Plan) → IsPlanned o d cs document draft
+    → PlanFilled draft p →
     HasHead document p
 head_of o d cs document draft p planned fills = record {
   group = fills.group ∙ planned.plan.head.group;
@@ -354,7 +356,7 @@ module _ (one : IsOneRecipe) (elements : DependsOnElements) (d : Device) (o : Or
       (subst (λ (x : Device). AreGathered (own f.origin x.set) f.origin.platform [] f.candidates) device (are.told no_content content).2)
 
   module _ (cs : List Candidate) (draft : Draft) where
-    no_candidates : (fault : CandidatesFault) → Stops (facts d o (Some no_content) 0 0 document cs draft) plan_checks (refusal.Candidates fault) → ⊥
+    no_candidates : (fault : CandidatesFault) → RefusalOf (facts d o (Some no_content) 0 0 document cs draft) plan_checks (refusal.Candidates fault) → ⊥
     no_candidates fault (inl memory) = cc
     no_candidates fault (inr (inl opens)) = let wrong = opens.2 in cc
     no_candidates fault (inr (inr (opened, inl memory))) = cc
@@ -370,7 +372,7 @@ module _ (one : IsOneRecipe) (elements : DependsOnElements) (d : Device) (o : Or
         candidates_plan fault plans.0 plans.2
     no_candidates fault (inr (inr (opened, inr (inr (aged, inr (inr (gathered, inr (inr (roomy, inr (inr none)))))))))) = absurd none.1
 
-    no_version : Stops (facts d o (Some no_content) 0 0 document cs draft) plan_checks (refusal.Plan planning.NoVersion) → ⊥
+    no_version : RefusalOf (facts d o (Some no_content) 0 0 document cs draft) plan_checks (refusal.Plan planning.NoVersion) → ⊥
     no_version (inl memory) = cc
     no_version (inr (inl opens)) = let wrong = opens.2 in cc
     no_version (inr (inr (opened, inl memory))) = cc

@@ -14,7 +14,7 @@ use Rattle.recipe_reader.specs.Members.{IsBefore, IsRising, Member, Need, member
 use Rattle.recipe_reader.specs.Sets.{IsValid, name_in}
 use Rattle.recipe_reader.specs.declared.candidate.Candidate.{Candidate}
 use Rattle.records.specs.Stored.{Item}
-use Rattle.device.specs.Plans.{Rise, item_name}
+use Rattle.device.specs.Plans.{AreRising, item_name}
 use Rattle.plan_core.specs.Looks.{IsOf}
 use Rattle.plan_core.specs.Set.{chosen, with_candidate}
 use Rattle.plan_core.proofs.Growing.{chosen_at, element, some_below}
@@ -25,11 +25,11 @@ candidate_name c = c.recipe.name
 
 -- ---- names in order
 
-less_head : (n m : List ℕ) (ns : List (List ℕ)) → Rise (n ∷ ns) → Contains ns m → slice_cmp nat_cmp n m ≡ Less
+less_head : (n m : List ℕ) (ns : List (List ℕ)) → AreRising (n ∷ ns) → Contains ns m → slice_cmp nat_cmp n m ≡ Less
 unfolding IsStrictlySortedBy
 less_head n m ns rise i = All-contains (λ x. slice_cmp nat_cmp n x ≡ Less) ns m (All-from_recursion (λ x. slice_cmp nat_cmp n x ≡ Less) ns rise.0) i
 
-rise_behind : (n : List ℕ) (ns : List (List ℕ)) → Rise (n ∷ ns) → Rise ns
+rise_behind : (n : List ℕ) (ns : List (List ℕ)) → AreRising (n ∷ ns) → AreRising ns
 unfolding IsStrictlySortedBy
 rise_behind n ns rise = rise.1
 
@@ -37,7 +37,7 @@ both_ways : (n m : List ℕ) → slice_cmp nat_cmp n m ≡ Less → slice_cmp na
 both_ways n m h k = let e : Less ≡ Greater = sym h ∙ nat_list_cmp_total.antisymm n m ∙ ap ordering_reverse k in cc e
 
 -- two items of one name are one
-pub one_named : (items : List Item) → Rise (map item_name items) → (i j : Item) → Contains items i → Contains items j → i.name ≡ j.name → i ≡ j
+pub one_named : (items : List Item) → AreRising (map item_name items) → (i j : Item) → Contains items i → Contains items j → i.name ≡ j.name → i ≡ j
 one_named [] rise i j a b same = absurd (in_nil i a)
 one_named (x ∷ items) rise i j a b same = elim (in_cons x items i a) [
   | inl e ↦ elim (in_cons x items j b) [
@@ -64,7 +64,7 @@ Partner x ys = (y : Item) × Contains ys y × IsOf x y
 abbrev Other : List Candidate → Item → Type 0
 Other xs y = (x : Candidate) × Contains xs x × IsOf x y
 
-heads : (x : Candidate) (xs : List Candidate) (y : Item) (ys : List Item) → Rise (map candidate_name (x ∷ xs)) → Rise (map item_name (y ∷ ys)) →
+heads : (x : Candidate) (xs : List Candidate) (y : Item) (ys : List Item) → AreRising (map candidate_name (x ∷ xs)) → AreRising (map item_name (y ∷ ys)) →
     Partner x (y ∷ ys) → Other (x ∷ xs) y → IsOf x y
 heads x xs y ys first second p o = elim (in_cons y ys p.0 p.1) [
   | inl e ↦ subst (IsOf x) (sym e) p.2
@@ -79,7 +79,7 @@ heads x xs y ys first second p o = elim (in_cons y ys p.0 p.1) [
   ]
 ]
 
-pub zip_sorted : (xs : List Candidate) (ys : List Item) → Rise (map candidate_name xs) → Rise (map item_name ys)
+pub zip_sorted : (xs : List Candidate) (ys : List Item) → AreRising (map candidate_name xs) → AreRising (map item_name ys)
     → ((x : Candidate) → Contains xs x → (y : Item) × Contains ys y × IsOf x y) → ((y : Item) → Contains ys y → (x : Candidate) × Contains xs x × IsOf x y) →
     AllZip IsOf xs ys
 zip_sorted [] [] first second f g = tt
@@ -153,7 +153,8 @@ module _ (cs : List Candidate) where
       rise_step p ps (slice_get cs p) refl (All-head (λ q. q < length cs) p ps below) (All-tail (λ q. q < length cs) p ps below) pairs ordered
       (rise_all ps (All-tail (λ q. q < length cs) p ps below) (tail_pairs p ps pairs) (λ q r c e i j. ordered q r c e (in_there p ps q i) (in_there p ps r j)))
 
-  pub chosen_rise : IsRising (members cs) → (wanted : List Need) (set : List ℕ) → IsValid (members cs) wanted set → Rise (map candidate_name (chosen cs set))
+  pub chosen_rise : IsRising (members cs) → (wanted : List Need) (set : List ℕ) → IsValid (members cs) wanted set
+      → AreRising (map candidate_name (chosen cs set))
   chosen_rise rising wanted set valid = rise_all set (inside cs wanted set valid) (AllPairs-from_increasing set valid.rising) ordered
     where
       ordered : Ordered cs set

@@ -3,25 +3,25 @@ use Rattle.std.proofs.Common.{◌≡◌, ℕ, ◌+◌, ◌<◌, Bool, true, fals
 use Rattle.std.specs.Prelude.{Option, Some, None, option_map, if◌then◌else◌}
 use Rattle.std.specs.List.{All}
 use Rattle.std.specs.Option.{IfSome}
-use Rattle.nuc_base.specs.Leads.{Leads, direct, through}
+use Rattle.nuc_base.specs.Leads.{HasPath, direct, through}
 use Rattle.nuc_base.specs.declared.kinds.Outcome.{Outcome}
 use Rattle.nuc_base.proofs.Lists.{all_from_in, in_nil}
 use Rattle.recipe_reader.specs.Candidates.{IsReadFor}
 use Rattle.recipe_reader.specs.Members.{Need, members}
-use Rattle.recipe_reader.specs.Sets.{IsMet, IsReached, IsValid, Needs, needs_of}
+use Rattle.recipe_reader.specs.Sets.{IsMet, IsReached, IsValid, HasDependency, needs_of}
 use Rattle.recipe_reader.specs.declared.candidate.Candidate.{Candidate}
 use Rattle.records.specs.Stored.{Item, Plan, Record, Genesis, Accepted, BootBegun, BootEnded, Activating, StepFailed, Failing, FailingBack, Closed}
 use Rattle.records.specs.declared.record.Origin.{Origin}
 use Rattle.device.specs.Devices.{Device, Group, Pending, no_device}
 use Rattle.device.specs.Grouped.{with_group}
 use Rattle.device.specs.Lawful.{Allowed, Lawful, Run, activated, applied, begun, boot_ended, close_pending, count_failure, on_pending, rolled, takes_plan}
-use Rattle.device.specs.Lawful.{turned_back}
+use Rattle.device.specs.Lawful.{sent_back}
 use Rattle.device.proofs.Course.{counted_plan, ended_plan}
 use Rattle.law_whole.specs.Whole.{AreWhole, AreWholeOn, BringWhole, BringsWhole, Whole}
 
 -- ---- without groups and items
 
-leads_nowhere : (ms : _) {a b : ℕ} → Leads (Needs ms []) a b → ⊥
+leads_nowhere : (ms : _) {a b : ℕ} → HasPath (HasDependency ms []) a b → ⊥
 leads_nowhere ms {a} (direct n) = in_nil a n.from
 leads_nowhere ms {a} (through n more) = in_nil a n.from
 
@@ -98,7 +98,7 @@ step d (BootEnded n e) whole allowed brings = staged (boot_ended e) d (ended_pla
 step d Activating whole allowed brings = staged activated d (λ q. refl) whole
 step d (StepFailed n s e) whole allowed brings = staged (count_failure d.set n) d (counted_plan d.set n) whole
 step d (Failing n) whole allowed brings = staged rolled d (λ q. refl) whole
-step d (FailingBack n) whole allowed brings = staged (turned_back d.origin d.set) d (λ q. refl) whole
+step d (FailingBack n) whole allowed brings = staged (sent_back d.origin d.set) d (λ q. refl) whole
 step d (Closed o) whole allowed brings = closed d o d.pending refl whole
 step d _ whole allowed brings = absurd allowed
 

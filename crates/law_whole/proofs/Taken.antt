@@ -70,9 +70,10 @@ own_needs_no_file one elements o d cs document draft sound whole is gathered sam
 
 -- ---- along a call
 
-front_brings : (d : Device) (front rest : List Record) → BringWhole d (front ++ rest) → BringWhole d front
-front_brings d [] rest brings = tt
-front_brings d (r ∷ front) rest brings = (brings.0, front_brings (applied d r) front rest brings.1)
+prefix_brings : (d : Device) (prefix rest : List Record) → BringWhole d (prefix ++ rest) → BringWhole d prefix
+prefix_brings d [] rest brings = tt
+prefix_brings d (r ∷ prefix) rest brings = (brings.0, prefix_brings (applied d r) prefix rest brings.1)
 
 pub brought_stay_whole : BroughtStayWhole
-brought_stay_whole d records brings whole front rest e split run = after_run front d e whole run (front_brings d front rest (subst (BringWhole d) split brings))
+brought_stay_whole d records brings whole prefix rest e split run =
+    after_run prefix d e whole run (prefix_brings d prefix rest (subst (BringWhole d) split brings))

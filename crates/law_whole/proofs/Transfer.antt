@@ -4,11 +4,11 @@ use Rattle.std.specs.Prelude.{Option, Some, None, IfSome, slice_get}
 use Rattle.std.specs.List.{All, Contains}
 use Rattle.std.specs.List.Sorted.{IsStrictlyIncreasing}
 use Rattle.std.proofs.lemmas.List.Elements.{All-contains}
-use Rattle.nuc_base.specs.Leads.{Leads, direct, through}
+use Rattle.nuc_base.specs.Leads.{HasPath, direct, through}
 use Rattle.nuc_base.proofs.Lists.{all_from_in}
-use Rattle.npm_ranges.specs.Ranges.{Meets}
+use Rattle.npm_ranges.specs.Ranges.{IsInRange}
 use Rattle.recipe_reader.specs.Members.{Need, Member}
-use Rattle.recipe_reader.specs.Sets.{IsMet, IsReached, IsValid, Needs, by_need, by_wanted, name_in, name_of, needs_in, needs_of, version_in}
+use Rattle.recipe_reader.specs.Sets.{IsMet, IsReached, IsValid, HasDependency, by_need, by_wanted, name_in, name_of, needs_in, needs_of, version_in}
 
 -- the same member stands at a place of the other set
 abbrev pub Beside : List Member → List Member → List ℕ → ℕ → Type 0
@@ -23,7 +23,7 @@ module _ (ms ns : List Member) (wanted : List Need) (s t : List ℕ) (valid : Is
         b.1,
         record {
           named = ap name_in (sym b.2) ∙ m.2.named;
-          meets = subst (λ (o : Option Member). IfSome (version_in o) (λ v. Meets v r)) b.2 m.2.meets;
+          meets = subst (λ (o : Option Member). IfSome (version_in o) (λ v. IsInRange v r)) b.2 m.2.meets;
         },
       )
 
@@ -47,8 +47,8 @@ module _ (ms ns : List Member) (wanted : List Need) (s t : List ℕ) (valid : Is
         named = ap name_in (sym same) ∙ n.named;
       })
 
-  step_back : {a b : ℕ} → Needs ns t a b → (p : ℕ) → Contains s p → slice_get ms p ≡ slice_get ns a → (r : ℕ) × Contains s r ×
-      (slice_get ms r ≡ slice_get ns b) × Needs ms s p r
+  step_back : {a b : ℕ} → HasDependency ns t a b → (p : ℕ) → Contains s p → slice_get ms p ≡ slice_get ns a → (r : ℕ) × Contains s r ×
+      (slice_get ms r ≡ slice_get ns b) × HasDependency ms s p r
   step_back {a} {b} n p i same =
       let f = from b n.to in (
         f.0,
@@ -63,23 +63,23 @@ module _ (ms ns : List Member) (wanted : List Need) (s t : List ℕ) (valid : Is
         },
       )
 
-  leads_back : {a b : ℕ} → Leads (Needs ns t) a b → (p : ℕ) → Contains s p → slice_get ms p ≡ slice_get ns a → (r : ℕ) × Contains s r ×
-      (slice_get ms r ≡ slice_get ns b) × Leads (Needs ms s) p r
+  leads_back : {a b : ℕ} → HasPath (HasDependency ns t) a b → (p : ℕ) → Contains s p → slice_get ms p ≡ slice_get ns a → (r : ℕ) × Contains s r ×
+      (slice_get ms r ≡ slice_get ns b) × HasPath (HasDependency ms s) p r
   leads_back (direct n) p i same = let r = step_back n p i same in (r.0, r.1, r.2, direct r.3)
   leads_back (through n more) p i same =
       let m = step_back n p i same in
       let r = leads_back more m.0 m.1 m.2 in
       (r.0, r.1, r.2, through m.3 r.3)
 
-  leads_within : {a b : ℕ} → Leads (Needs ns t) a b → Contains t a
+  leads_within : {a b : ℕ} → HasPath (HasDependency ns t) a b → Contains t a
   leads_within (direct n) = n.from
   leads_within (through n more) = n.from
 
-  no_loop : (q : ℕ) → Leads (Needs ns t) q q → ⊥
+  no_loop : (q : ℕ) → HasPath (HasDependency ns t) q q → ⊥
   no_loop q l =
       let f = from q (leads_within l) in
       let r = leads_back l f.0 f.1 (sym f.2) in
-      valid.acyclic f.0 (subst (λ (x : ℕ). Leads (Needs ms s) f.0 x) (valid.one_version r.0 f.0 r.1 f.1 (ap name_in (r.2 ∙ f.2))) r.3)
+      valid.acyclic f.0 (subst (λ (x : ℕ). HasPath (HasDependency ms s) f.0 x) (valid.one_version r.0 f.0 r.1 f.1 (ap name_in (r.2 ∙ f.2))) r.3)
 
   pub valid_over : IsStrictlyIncreasing t → All (λ p. p < length ns) t → ((p q : ℕ) → Contains t p → Contains t q → name_of ns p ≡ name_of ns q → p ≡ q) →
       IsValid ns wanted t

@@ -8,7 +8,7 @@ use Rattle.tree_core.specs.View.{view}
 use Rattle.config_ops.specs.NewConfig.{change_of, new_config}
 use Rattle.config_ops.specs.declared.update.Update.{Update}
 use Rattle.config_cmd.specs.declared.change.Change.{Change}
-use Rattle.recipe_reader.specs.OneRecipe.{Reads}
+use Rattle.recipe_reader.specs.OneRecipe.{IsRecipeFor}
 use Rattle.recipe_reader.specs.declared.recipe.Recipe.{Recipe}
 use Rattle.records.specs.Stored.{Item, Plan, Record, Accepted, Closed, plan_view}
 use Rattle.records.specs.declared.record.Plan as code
@@ -88,7 +88,8 @@ pub record IsChangedItem (p : Platform) (name : List ℕ) (update : Update) (i j
   pub recipe : j.recipe ≡ i.recipe
   pub artifacts : j.artifacts ≡ i.artifacts
   pub kept : bytes_eq name i.name ≡ false → j.config ≡ i.config
-  pub changed : i.name ≡ name → (r : Recipe) → Reads i.recipe p r → j.config ≡ new_config (Some i.config) (view r.default_config) (Some (change_of update))
+  pub changed : i.name ≡ name → (r : Recipe) → IsRecipeFor i.recipe p r
+      → j.config ≡ new_config (Some i.config) (view r.default_config) (Some (change_of update))
 
 -- each item is so, and no group changes in any later device
 pub record IsChangePlan (d : Device) (origin : Origin) (name : List ℕ) (c : Change) (plan : Plan) : Type 0 where

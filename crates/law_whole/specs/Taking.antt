@@ -4,9 +4,9 @@ use Rattle.std.specs.List.{AllZip}
 use Rattle.std.specs.Str.{bytes_eq}
 use Rattle.serde_json.specs.Data.{Data}
 use Rattle.nuc_base.specs.declared.platform.Platform.{Platform}
-use Rattle.npm_ranges.specs.Ranges.{Meets}
+use Rattle.npm_ranges.specs.Ranges.{IsInRange}
 use Rattle.recipe_reader.specs.Candidates.{IsReadFor}
-use Rattle.recipe_reader.specs.OneRecipe.{Reads}
+use Rattle.recipe_reader.specs.OneRecipe.{IsRecipeFor}
 use Rattle.recipe_reader.specs.declared.recipe.Recipe.{Recipe}
 use Rattle.deployment_doc.specs.declared.document.Root.{Root}
 use Rattle.tree_core.specs.Regular.{IsRegular}
@@ -28,7 +28,7 @@ use Rattle.library_core.specs.Gathered.{AreGathered, IsGatheredOf}
 use Rattle.library_core.specs.Faults.{Gathered}
 use Rattle.library_core.specs.declared.fault.CandidatesFault.{CandidatesFault}
 use Rattle.library_core.specs.declared.fault.CandidatesFault.TheVariants.{Library, NoMemory}
-use Rattle.device.specs.Filled.{Fills}
+use Rattle.device.specs.Filled.{PlanFilled}
 use Rattle.artifact_store.specs.Staged.{draft_lines}
 use Rattle.deployment_doc.specs.Sound.{AreSound}
 use Rattle.deployment_doc.specs.declared.document.Document.{Document}
@@ -54,7 +54,7 @@ RunsStayWhole = (d e : Device) (records : List Record) → Whole d → Run d rec
 abbrev pub PlansAreWhole : Type 0
 PlansAreWhole = (o : Origin) (d : Device) (cs : List Candidate) (document : Document) (draft : Draft) (plan : Plan)
     → IsSound d → IsRegularDevice d → Whole d → d.origin ≡ Some o → IsGatheredOf o d.set cs → AreSound document.roots
-    → IsPlanned o d cs document draft → Fills draft plan → BringsWhole d (Accepted plan)
+    → IsPlanned o d cs document draft → PlanFilled draft plan → BringsWhole d (Accepted plan)
 
 -- the document asks of its group what the group asks already
 abbrev pub AsksTheSame : Device → Document → Type 0
@@ -110,12 +110,12 @@ pub record IsKeptItem (p : Platform) (roots : List Root) (i j : Item) : Type 0 w
   pub recipe : j.recipe ≡ i.recipe
   pub artifacts : j.artifacts ≡ i.artifacts
   pub config : change_in i.name roots ≡ None → j.config ≡ i.config
-  pub changed : (r : Recipe) → Reads i.recipe p r → j.config ≡ new_config (Some i.config) (view r.default_config) (change_in i.name roots)
+  pub changed : (r : Recipe) → IsRecipeFor i.recipe p r → j.config ≡ new_config (Some i.config) (view r.default_config) (change_in i.name roots)
 
 abbrev pub OwnItemsStay : Type 0
 OwnItemsStay = (o : Origin) (d : Device) (cs : List Candidate) (document : Document) (draft : Draft) (plan : Plan)
     → IsSound d → Whole d → d.origin ≡ Some o → AreGathered (own o d.set) o.platform [] cs → AsksTheSame d document
-    → IsPlanned o d cs document draft → Fills draft plan → AllZip (IsKeptItem o.platform document.roots) d.set plan.items
+    → IsPlanned o d cs document draft → PlanFilled draft plan → AllZip (IsKeptItem o.platform document.roots) d.set plan.items
 
 -- ---- groups
 
@@ -139,9 +139,9 @@ TakenAreWhole = (d : Device) (o : Origin) (content : Option Content) (before aft
     → IsSound d → IsRegularDevice d → Whole d → d.origin ≡ Some o → AreSound document.roots
     → TakesIn d o content before after document (Ok plan) → BringsWhole d (Accepted (plan_view plan))
 
--- each device that a front of the records makes of this one is whole, where this one is
+-- each device that a prefix of the records makes of this one is whole, where this one is
 abbrev pub StayWhole : Device → List Record → Type 0
-StayWhole d records = Whole d → (front rest : List Record) (e : Device) → records ≡ front ++ rest → Run d front e → Whole e
+StayWhole d records = Whole d → (prefix rest : List Record) (e : Device) → records ≡ prefix ++ rest → Run d prefix e → Whole e
 
 abbrev pub BroughtStayWhole : Type 0
 BroughtStayWhole = (d : Device) (records : List Record) → BringWhole d records → StayWhole d records
@@ -152,4 +152,4 @@ BroughtStayWhole = (d : Device) (records : List Record) → BringWhole d records
 abbrev pub OneItemIsWhole : Type 0
 OneItemIsWhole = (o : Origin) (c : Candidate) (g : Group) (r : Requirement) (i : Item)
     → IsReadFor o.platform c → c.recipe.dependencies ≡ [] → IsItemOf c i → IsBuiltIn o.nucleus i
-    → r.name ≡ c.recipe.name → Meets c.recipe.version r.range → g.requirements ≡ r ∷ [] → AreWholeOn o (g ∷ []) (i ∷ [])
+    → r.name ≡ c.recipe.name → IsInRange c.recipe.version r.range → g.requirements ≡ r ∷ [] → AreWholeOn o (g ∷ []) (i ∷ [])

@@ -15,7 +15,7 @@ pub fn whole_devices_stay_whole()
     ensures empty { Whole no_device }
     ensures step { StaysWhole }
     ensures run { RunsStayWhole }
-    ensures fronts { BroughtStayWhole }
+    ensures prefixes { BroughtStayWhole }
     ensures one_item { OneItemIsWhole }
 {}
 

@@ -11,12 +11,12 @@ use Rattle.records.specs.Stored.{Item}
 use Rattle.recipe_reader.specs.declared.candidate.Candidate.{Candidate}
 use Rattle.nuc_base.proofs.Lists.{in_there, all_from_in, from_map, in_map}
 use Rattle.recipe_reader.specs.Candidates.{IsAlike}
-use Rattle.library_core.specs.Sources.{Source, source, nucleus, kept_source, own, Passes}
+use Rattle.library_core.specs.Sources.{Source, source, nucleus, kept_source, own, MayPass}
 use Rattle.library_core.specs.Gathered.{most, AreGathered, IsGatheredOf, KeepBytes}
-use Rattle.library_core.specs.Faults.{IsClash, Refuses, Gathered, fault_of}
+use Rattle.library_core.specs.Faults.{IsClash, IsGatherRefusal, Gathered, fault_of}
 use Rattle.library_core.specs.declared.library.LibraryFault.{LibraryFault}
 use Rattle.library_core.specs.declared.library.LibraryFault.TheVariants as library
-use Rattle.library_core.specs.SoFar.{IsSoFar, Stops}
+use Rattle.library_core.specs.SoFar.{IsSoFar, IsRefusedAtOnce}
 use Rattle.library_core.specs.declared.fault.CandidatesFault.{CandidatesFault}
 use Rattle.library_core.specs.declared.fault.CandidatesFault.TheVariants.{Library, TooManyRecipes, Recipe, RecipeDiffers, TwoRecipes, NoMemory}
 use Rattle.library_core.proofs.Elements.{alike_one}
@@ -29,10 +29,10 @@ all_push P xs x all one = all_from_in P (xs ++ x ∷ []) (λ y i. elim (Contains
 ])
 
 -- one recipe more
-pub passed_more : (p : Platform) (recipes : List (List ℕ)) (i : ℕ) → i < length recipes → All (Passes p) (take i recipes) → Passes p (get_or recipes i []) →
-    All (Passes p) (take (i + 1) recipes)
-passed_more p recipes i below all one = subst (λ (l : List (List ℕ)). All (Passes p) l) (sym (take_more recipes i [] below))
-    (all_push (Passes p) (take i recipes) (get_or recipes i []) all one)
+pub passed_more : (p : Platform) (recipes : List (List ℕ)) (i : ℕ) → i < length recipes → All (MayPass p) (take i recipes) → MayPass p (get_or recipes i []) →
+    All (MayPass p) (take (i + 1) recipes)
+passed_more p recipes i below all one = subst (λ (l : List (List ℕ)). All (MayPass p) l) (sym (take_more recipes i [] below))
+    (all_push (MayPass p) (take i recipes) (get_or recipes i []) all one)
 
 pub so_far_more : (origin : Origin) (kept : List Item) (recipes : List (List ℕ)) (i : ℕ) (r : Result (List Candidate) CandidatesFault) → i < length recipes
     → IsSoFar (own origin kept) origin.platform (take i recipes ++ get_or recipes i [] ∷ []) r →
@@ -42,23 +42,23 @@ so_far_more origin kept recipes i r below h = subst (λ (l : List (List ℕ)). I
 
 -- a recipe that is refused at once
 refuses_at : (origin : Origin) (kept : List Item) (recipes : List (List ℕ)) (i : ℕ) (f : CandidatesFault) → length recipes ≤ most → i < length recipes →
-    All (Passes origin.platform) (take i recipes) → Stops origin.platform (get_or recipes i []) i f
-    → Refuses (own origin kept) origin.platform recipes f
-refuses_at origin kept recipes i f few below all (inl e) = subst (Refuses (own origin kept) origin.platform recipes) (sym e) tt
-refuses_at origin kept recipes i f few below all (inr h) = subst (Refuses (own origin kept) origin.platform recipes) (sym h.1)
+    All (MayPass origin.platform) (take i recipes) → IsRefusedAtOnce origin.platform (get_or recipes i []) i f
+    → IsGatherRefusal (own origin kept) origin.platform recipes f
+refuses_at origin kept recipes i f few below all (inl e) = subst (IsGatherRefusal (own origin kept) origin.platform recipes) (sym e) tt
+refuses_at origin kept recipes i f few below all (inr h) = subst (IsGatherRefusal (own origin kept) origin.platform recipes) (sym h.1)
     (few, record { within = below; before = all; faulty = h.2 })
 
 pub stopped_gathered : (origin : Origin) (kept : List Item) (recipes : List (List ℕ)) (i : ℕ) (f : CandidatesFault)
     (r : Result (List Candidate) CandidatesFault) → IsErrAnd r (λ e. e ≡ f)
-    → length recipes ≤ most → i < length recipes → All (Passes origin.platform) (take i recipes) → Stops origin.platform (get_or recipes i []) i f →
+    → length recipes ≤ most → i < length recipes → All (MayPass origin.platform) (take i recipes) → IsRefusedAtOnce origin.platform (get_or recipes i []) i f →
     Gathered recipes origin kept r
 stopped_gathered origin kept recipes i f (Ok cs) h few below all stops = absurd h
-stopped_gathered origin kept recipes i f (Err e) h few below all stops = subst (Refuses (own origin kept) origin.platform recipes) (sym h)
+stopped_gathered origin kept recipes i f (Err e) h few below all stops = subst (IsGatherRefusal (own origin kept) origin.platform recipes) (sym h)
     (refuses_at origin kept recipes i f few below all stops)
 
 -- all of them
 clash_refuses : (origin : Origin) (kept : List Item) (recipes : List (List ℕ)) (f : CandidatesFault) → length recipes ≤ most →
-    All (Passes origin.platform) recipes → IsClash (own origin kept) origin.platform recipes f → Refuses (own origin kept) origin.platform recipes f
+    All (MayPass origin.platform) recipes → IsClash (own origin kept) origin.platform recipes f → IsGatherRefusal (own origin kept) origin.platform recipes f
 clash_refuses origin kept recipes Library few all h = absurd h
 clash_refuses origin kept recipes (TooManyRecipes n) few all h = absurd h
 clash_refuses origin kept recipes (Recipe n f) few all h = absurd h
@@ -67,17 +67,17 @@ clash_refuses origin kept recipes (TwoRecipes name version) few all h = (few, al
 clash_refuses origin kept recipes NoMemory few all h = absurd h
 
 whole_gathered : (origin : Origin) (kept : List Item) (recipes : List (List ℕ)) (r : Result (List Candidate) CandidatesFault) → length recipes ≤ most →
-    All (Passes origin.platform) recipes → IsSoFar (own origin kept) origin.platform recipes r → Gathered recipes origin kept r
+    All (MayPass origin.platform) recipes → IsSoFar (own origin kept) origin.platform recipes r → Gathered recipes origin kept r
 whole_gathered origin kept recipes (Ok cs) few all h = (few, all, h)
-whole_gathered origin kept recipes (Err f) few all (inl e) = subst (Refuses (own origin kept) origin.platform recipes) (sym e) tt
+whole_gathered origin kept recipes (Err f) few all (inl e) = subst (IsGatherRefusal (own origin kept) origin.platform recipes) (sym e) tt
 whole_gathered origin kept recipes (Err f) few all (inr h) = clash_refuses origin kept recipes f few all h
 
 pub ended_gathered : (origin : Origin) (kept : List Item) (recipes : List (List ℕ)) (i : ℕ) (r : Result (List Candidate) CandidatesFault) →
-    length recipes ≤ i → length recipes ≤ most → All (Passes origin.platform) (take i recipes) → IsSoFar (own origin kept) origin.platform (take i recipes) r
+    length recipes ≤ i → length recipes ≤ most → All (MayPass origin.platform) (take i recipes) → IsSoFar (own origin kept) origin.platform (take i recipes) r
     → Gathered recipes origin kept r
 ended_gathered origin kept recipes i r past few all h =
     let e = take_all i recipes past in
-    whole_gathered origin kept recipes r few (subst (λ (l : List (List ℕ)). All (Passes origin.platform) l) e all)
+    whole_gathered origin kept recipes r few (subst (λ (l : List (List ℕ)). All (MayPass origin.platform) l) e all)
     (subst (λ (l : List (List ℕ)). IsSoFar (own origin kept) origin.platform l r) e h)
 
 pub more_room : (r : Result (List Candidate) CandidatesFault) (n m : ℕ) → n ≤ m → IfOk r (λ cs. length cs ≤ n) → IfOk r (λ cs. length cs ≤ m)

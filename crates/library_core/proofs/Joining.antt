@@ -9,12 +9,12 @@ use Rattle.records.specs.Stored.{Item}
 use Rattle.tree_core.specs.Laws.{IsOneTree}
 use Rattle.recipe_reader.specs.Recipes.{ReadsRecipe}
 use Rattle.recipe_reader.specs.Members.{members, IsRising}
-use Rattle.recipe_reader.specs.Candidates.{IsReadFor, IsAlike, IsAdded, Clashes, IsNucleus, nucleus_name}
+use Rattle.recipe_reader.specs.Candidates.{IsReadFor, IsAlike, IsAdded, HasClash, IsNucleus, nucleus_name}
 use Rattle.recipe_reader.specs.declared.candidate.Candidate.{Candidate}
-use Rattle.library_core.specs.Sources.{Source, source, nucleus, kept_source, own, IsTaken, IsSkipped, IsSource, Agree, IsAgainst}
+use Rattle.library_core.specs.Sources.{Source, source, nucleus, kept_source, own, IsTaken, IsSkipped, IsSource, HasNoClash, IsAgainst}
 use Rattle.library_core.specs.Gathered.{AreGathered, IsFirstClash}
 use Rattle.library_core.specs.Faults.{IsClash}
-use Rattle.library_core.specs.SoFar.{IsOther, Keeps, Decides}
+use Rattle.library_core.specs.SoFar.{IsOther, IsAmongKept, IsClashFault}
 use Rattle.library_core.specs.declared.fault.CandidatesFault.{CandidatesFault}
 use Rattle.library_core.specs.declared.fault.CandidatesFault.TheVariants.{Library, TooManyRecipes, Recipe, RecipeDiffers, TwoRecipes, NoMemory}
 use Rattle.library_core.proofs.Elements.{alike_one, source_added, source_still, now_in, all_added}
@@ -27,7 +27,7 @@ pub record AreOf (P : Source → Type 0) (p : Platform) (cs : List Candidate) : 
   pub whole : (s : Source) → Contains (map source cs) s ↔ P s
 
 -- the sources of candidates in order agree
-pub sources_agree : (P : Source → Type 0) (p : Platform) (cs : List Candidate) → AreOf P p cs → Agree P
+pub sources_agree : (P : Source → Type 0) (p : Platform) (cs : List Candidate) → AreOf P p cs → HasNoClash P
 sources_agree P p cs are a b at_a at_b clash =
     let x = from_map source cs a ((are.whole a).1 at_a) in
     let y = from_map source cs b ((are.whole b).1 at_b) in
@@ -69,7 +69,7 @@ pub gathered_of : (mine : List Source) (p : Platform) (recipes : List (List ℕ)
 gathered_of mine p recipes cs g = record { rising = g.rising; read = g.read; whole = g.whole }
 
 -- what clashes with a candidate clashes with a source
-pub against : (P : Source → Type 0) (p : Platform) (cs : List Candidate) (c : Candidate) → AreOf P p cs → Clashes cs c → IsAgainst P (source c)
+pub against : (P : Source → Type 0) (p : Platform) (cs : List Candidate) (c : Candidate) → AreOf P p cs → HasClash cs c → IsAgainst P (source c)
 against P p cs c are clash = (
   source clash.with,
   (are.whole (source clash.with)).0 (in_map source cs clash.with clash.there),
@@ -171,7 +171,7 @@ recipe_skipped one mine p before b cs g skipped =
 -- ---- clashes
 
 first_clash : (mine : List Source) (p : Platform) (before : List (List ℕ)) (b : List ℕ) (cs : List Candidate) (c : Candidate)
-    → AreGathered mine p before cs → Clashes cs c → IsOther p b c → IsFirstClash mine p (before ++ b ∷ []) (source c)
+    → AreGathered mine p before cs → HasClash cs c → IsOther p b c → IsFirstClash mine p (before ++ b ∷ []) (source c)
 first_clash mine p before b cs c g clash o =
     let are = of_gathered mine p before cs g in record {
       before = before;
@@ -185,7 +185,7 @@ first_clash mine p before b cs c g clash o =
 
 -- a kept item of its name and version clashes with it
 kept_against : (origin : Origin) (kept : List Item) (p : Platform) (before : List (List ℕ)) (cs : List Candidate) (c : Candidate)
-    → AreGathered (own origin kept) p before cs → Clashes cs c → Keeps kept c → IsAgainst (Contains (own origin kept)) (source c)
+    → AreGathered (own origin kept) p before cs → HasClash cs c → IsAmongKept kept c → IsAgainst (Contains (own origin kept)) (source c)
 kept_against origin kept p before cs c g clash k =
     let s = kept_source k.0 in
     let there : Contains (own origin kept) s = in_there (nucleus origin.nucleus) (map kept_source kept) s (in_map kept_source kept k.0 k.1) in
@@ -199,7 +199,7 @@ kept_against origin kept p before cs c g clash k =
     (s, there, record { name = k.2.0; version = k.2.1; differs = λ e. clash.differs (sym same ∙ e) })
 
 -- and none of the device's own does where there is no such item
-never_against : (origin : Origin) (kept : List Item) (c : Candidate) → c.recipe.name ≢ nucleus_name → (Keeps kept c → ⊥) →
+never_against : (origin : Origin) (kept : List Item) (c : Candidate) → c.recipe.name ≢ nucleus_name → (IsAmongKept kept c → ⊥) →
     IsAgainst (Contains (own origin kept)) (source c) → ⊥
 never_against origin kept c other none a =
     elim (in_cons (nucleus origin.nucleus) (map kept_source kept) a.0 a.1) [
@@ -211,7 +211,7 @@ never_against origin kept c other none a =
 
 pub clash_found : (origin : Origin) (kept : List Item) (p : Platform) (before : List (List ℕ)) (b : List ℕ) (cs : List Candidate) (c : Candidate)
     (f : CandidatesFault)
-    → AreGathered (own origin kept) p before cs → Clashes cs c → IsOther p b c → Decides kept c f → IsClash (own origin kept) p (before ++ b ∷ []) f
+    → AreGathered (own origin kept) p before cs → HasClash cs c → IsOther p b c → IsClashFault kept c f → IsClash (own origin kept) p (before ++ b ∷ []) f
 clash_found origin kept p before b cs c f g clash o (inl h) =
     subst (λ (x : CandidatesFault). IsClash (own origin kept) p (before ++ b ∷ []) x) (sym h.1)
     (source c, refl, refl, inr (first_clash (own origin kept) p before b cs c g clash o, kept_against origin kept p before cs c g clash h.0))

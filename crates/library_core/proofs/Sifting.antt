@@ -12,7 +12,7 @@ use Rattle.records.specs.Stored.{Item, item_view}
 use Rattle.records.specs.declared.record.Item as code
 use Rattle.tree_core.specs.Laws.{IsOneTree}
 use Rattle.recipe_reader.specs.Recipes.{ReadsRecipe, IsFault}
-use Rattle.recipe_reader.specs.Candidates.{Clashes}
+use Rattle.recipe_reader.specs.Candidates.{HasClash}
 use Rattle.recipe_reader.specs.Refused.{IsRefused}
 use Rattle.recipe_reader.specs.declared.candidates.AddRefusal.{AddRefusal}
 use Rattle.recipe_reader.specs.declared.candidates.AddRefusal.TheVariants as add
@@ -20,11 +20,12 @@ use Rattle.recipe_reader.specs.declared.fault.RecipeFault.{RecipeFault}
 use Rattle.recipe_reader.specs.declared.fault.RecipeFault.TheVariants.{NoManifest, NoMemory as OutOfMemory}
 use Rattle.recipe_reader.specs.declared.candidate.Candidate.{Candidate}
 use Rattle.library_core.specs.Library.{most_given}
-use Rattle.library_core.specs.Sources.{Source, source, own, IsSkipped, IsFaulty, Passes}
+use Rattle.library_core.specs.Sources.{Source, source, own, IsSkipped, IsFaulty, MayPass}
 use Rattle.library_core.specs.Gathered.{AreGathered}
 use Rattle.library_core.specs.Faults.{IsClash}
-use Rattle.library_core.specs.SoFar.{IsSoFar, IsOther, IsUnread, IsSifted, IsOf, is_of, Keeps, IsClashOf, IsDiffering, IsRefusal, Decides, Joins, IsJoined}
-use Rattle.library_core.specs.SoFar.{Stops, IsStopped}
+use Rattle.library_core.specs.SoFar.{IsSoFar, IsOther, IsUnread, IsSifted, IsOf, is_of}
+use Rattle.library_core.specs.SoFar.{IsAmongKept, IsClashOf, IsDiffering, IsRefusal, IsClashFault, JoinOutcome, IsJoined}
+use Rattle.library_core.specs.SoFar.{IsRefusedAtOnce, IsStopped}
 use Rattle.library_core.specs.declared.fault.CandidatesFault.{CandidatesFault}
 use Rattle.library_core.specs.declared.fault.CandidatesFault.TheVariants.{Library, RecipeDiffers, NoMemory}
 use Rattle.library_core.proofs.Elements.{length_added}
@@ -38,7 +39,7 @@ fault_stays mine p before b f (inr h) = inr (clash_stays mine p before b f h)
 
 joins : IsOneTree → (origin : Origin) (kept : List Item) (p : Platform) (before : List (List ℕ)) (b : List ℕ) (cs : List Candidate) (c : Candidate)
     (next : Result (List Candidate) CandidatesFault)
-    → AreGathered (own origin kept) p before cs → IsOther p b c → Joins kept c cs next → IsSoFar (own origin kept) p (before ++ b ∷ []) next
+    → AreGathered (own origin kept) p before cs → IsOther p b c → JoinOutcome kept c cs next → IsSoFar (own origin kept) p (before ++ b ∷ []) next
 joins one origin kept p before b cs c (Ok new) g o h = recipe_more one (own origin kept) p before b cs new c g h.0 h.1 o
 joins one origin kept p before b cs c (Err f) g o (inl e) = inl e
 joins one origin kept p before b cs c (Err f) g o (inr h) = inr (clash_found origin kept p before b cs c f g h.0 o h.1)
@@ -64,7 +65,7 @@ other_whole b bytes p c e o =
     let read = subst (λ (s : List ℕ). ReadsRecipe s p (Ok c.recipe)) short o.read in
     record { bytes = short ∙ reads_whole b p c.recipe read; read = o.read; other = o.other }
 
-pub passes_taken : (p : Platform) (b : List ℕ) (c : Candidate) → IsOther p b c → Passes p b
+pub passes_taken : (p : Platform) (b : List ℕ) (c : Candidate) → IsOther p b c → MayPass p b
 passes_taken p b c o = inr (source c, taken_of p b c o)
 
 pub joined_length : (kept : List Item) (c : Candidate) (gathered next : Result (List Candidate) CandidatesFault) (n : ℕ) → IsJoined kept c gathered next →
@@ -97,8 +98,8 @@ differing cs c (add.Clash back) f h e = inr (h.1, e ∙ ap (λ (d : Candidate). 
 differing cs c (add.NoMemory back) f h e = inl e
 
 pub decided : (kept : List Item) (cs : List Candidate) (c : Candidate) (refusal : AddRefusal) (f : CandidatesFault) → IsRefused cs c refusal →
-    IsRefusal kept refusal f → (f ≡ NoMemory) ⊎ (Clashes cs c × Decides kept c f)
-decided kept cs c (add.Clash back) f h e = inr (h.1, subst (λ (d : Candidate). Decides kept d f) h.0 e)
+    IsRefusal kept refusal f → (f ≡ NoMemory) ⊎ (HasClash cs c × IsClashFault kept c f)
+decided kept cs c (add.Clash back) f h e = inr (h.1, subst (λ (d : Candidate). IsClashFault kept d f) h.0 e)
 decided kept cs c (add.NoMemory back) f h e = inl e
 
 -- ---- whether the device keeps a name and version
@@ -111,7 +112,7 @@ is_of_means c i h =
 is_of_holds : (c : Candidate) (i : Item) → IsOf c i → is_of c i ≡ true
 is_of_holds c i h = rw ((bytes_decides i.name c.recipe.name).1 h.0, (bytes_decides i.version c.recipe.version).1 h.1) refl
 
-pub keeps_found : (kept : List code.Item) (c : Candidate) → list_any (λ i. is_of c (item_view i)) kept ≡ true → Keeps (map item_view kept) c
+pub keeps_found : (kept : List code.Item) (c : Candidate) → list_any (λ i. is_of c (item_view i)) kept ≡ true → IsAmongKept (map item_view kept) c
 keeps_found [] c h = absurd (false≢true h)
 keeps_found (i ∷ kept) c h = elim (or_cases (is_of c (item_view i)) (list_any (λ (j : code.Item). is_of c (item_view j)) kept) h) [
   | inl e ↦ (item_view i, in_here (item_view i) (map item_view kept), is_of_means c (item_view i) e)
@@ -122,7 +123,7 @@ or_true : (b : Bool) → (b || true) ≡ true
 or_true true = refl
 or_true false = refl
 
-pub keeps_shown : (kept : List code.Item) (c : Candidate) → Keeps (map item_view kept) c → list_any (λ i. is_of c (item_view i)) kept ≡ true
+pub keeps_shown : (kept : List code.Item) (c : Candidate) → IsAmongKept (map item_view kept) c → list_any (λ i. is_of c (item_view i)) kept ≡ true
 keeps_shown [] c k = absurd (in_nil k.0 k.1)
 keeps_shown (i ∷ kept) c k = elim (in_cons (item_view i) (map item_view kept) k.0 k.1) [
   | inl e ↦ rw (is_of_holds c (item_view i) (subst (IsOf c) (sym e) k.2)) refl
@@ -132,7 +133,7 @@ keeps_shown (i ∷ kept) c k = elim (in_cons (item_view i) (map item_view kept) 
 -- ---- faults
 
 pub stops_at : (p : Platform) (b bytes : List ℕ) (n : ℕ) (f : RecipeFault) (r : CandidatesFault) → bytes ≡ take most_given b → (f ≡ OutOfMemory) ⊎
-    IsFaulty p bytes f → IsStopped n f r → Stops p b n r
+    IsFaulty p bytes f → IsStopped n f r → IsRefusedAtOnce p b n r
 stops_at p b bytes n f r same why (inl h) = inl h.1
 stops_at p b bytes n f r same (inl e) (inr h) = absurd (h.0 e)
 stops_at p b bytes n f r same (inr faulty) (inr h) = inr (f, h.1, faulty_whole b p f (subst (λ (s : List ℕ). IsFaulty p s f) same faulty))
@@ -141,7 +142,7 @@ pub stopped_other : (n : ℕ) (f : RecipeFault) (r : CandidatesFault) → IsStop
 stopped_other n f r (inl h) e = let k = sym h.1 ∙ e in cc
 stopped_other n f r (inr h) e = let k = sym h.1 ∙ e in cc
 
-decides_other : (kept : List Item) (c : Candidate) (f : CandidatesFault) → Decides kept c f → f ≢ Library
+decides_other : (kept : List Item) (c : Candidate) (f : CandidatesFault) → IsClashFault kept c f → f ≢ Library
 decides_other kept c f (inl h) e = let k = sym h.1 ∙ e in cc
 decides_other kept c f (inr h) e = let k = sym h.1 ∙ e in cc
 

@@ -7,7 +7,7 @@ use Rattle.recipe_reader.specs.declared.candidate.Candidate.{Candidate}
 use Rattle.recipe_reader.specs.declared.fault.RecipeFault.{RecipeFault}
 use Rattle.records.specs.declared.record.Origin.{Origin}
 use Rattle.records.specs.Stored.{Item}
-use Rattle.library_core.specs.Sources.{Source, source, own, IsTaken, Passes, IsFaulty, IsSource, Agree, IsAgainst}
+use Rattle.library_core.specs.Sources.{Source, source, own, IsTaken, MayPass, IsFaulty, IsSource, HasNoClash, IsAgainst}
 
 -- the most recipes of a library
 abbrev pub most : ℕ
@@ -32,7 +32,7 @@ KeepBytes kept cs = (i : Item) (c : Candidate) → Contains kept i → Contains 
 -- the first recipe with a fault
 pub record IsFirstFaulty (p : Platform) (recipes : List (List ℕ)) (at : ℕ) (fault : RecipeFault) : Type 0 where
   pub within : at < length recipes
-  pub before : All (Passes p) (take at recipes)
+  pub before : All (MayPass p) (take at recipes)
   pub faulty : IsFaulty p (slice_index_or recipes at []) fault
 
 -- the first of the device's own sources that clashes with one before it
@@ -40,7 +40,7 @@ pub record IsFirstOwnClash (mine : List Source) (s : Source) : Type 0 where
   pub before : List Source
   pub after : List Source
   pub is : mine ≡ before ++ s ∷ after
-  pub agree : Agree (Contains before)
+  pub agree : HasNoClash (Contains before)
   pub against : IsAgainst (Contains before) s
 
 -- the first recipe that clashes with one of the device's own sources or with a recipe before it
@@ -50,16 +50,16 @@ pub record IsFirstClash (mine : List Source) (p : Platform) (recipes : List (Lis
   pub after : List (List ℕ)
   pub is : recipes ≡ before ++ bytes ∷ after
   pub taken : IsTaken p bytes s
-  pub agree : Agree (IsSource mine p before)
+  pub agree : HasNoClash (IsSource mine p before)
   pub against : IsAgainst (IsSource mine p before) s
 
 -- a source of that name and version
-abbrev pub Named : List ℕ → List ℕ → (Source → Type 0) → Type 0
-Named name version P = (s : Source) × (s.name ≡ name) × (s.version ≡ version) × P s
+abbrev pub HasSource : List ℕ → List ℕ → (Source → Type 0) → Type 0
+HasSource name version P = (s : Source) × (s.name ≡ name) × (s.version ≡ version) × P s
 
 -- it clashes with one of the device's own sources
-abbrev pub Differs : List Source → Platform → List (List ℕ) → Source → Type 0
-Differs mine p recipes s = IsFirstOwnClash mine s ⊎ (IsFirstClash mine p recipes s × IsAgainst (Contains mine) s)
+abbrev pub IsFirstDiffering : List Source → Platform → List (List ℕ) → Source → Type 0
+IsFirstDiffering mine p recipes s = IsFirstOwnClash mine s ⊎ (IsFirstClash mine p recipes s × IsAgainst (Contains mine) s)
 
 -- it clashes with an earlier recipe alone
 abbrev pub IsSecond : List Source → Platform → List (List ℕ) → Source → Type 0

@@ -12,7 +12,7 @@ pub record Content : Type 0 where
 abbrev pub most_given : ℕ
 most_given = 65537
 
--- n bytes from that place on stand at the front of the slice, whose rest stays: none only at the end, or into an empty slice
+-- n bytes from that place on stand at the beginning of the slice, whose rest stays: none only at the end, or into an empty slice
 pub record IsPart (bytes : List ℕ) (start : ℕ) (old new : List ℕ) (n : ℕ) : Type 0 where
   pub within : n ≤ length (drop start bytes)
   pub bytes_are : new ≡ take n (drop start bytes) ++ drop n old

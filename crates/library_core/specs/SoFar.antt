@@ -4,7 +4,7 @@ use Rattle.std.specs.Cmp.Lexicographic.{pointwise}
 use Rattle.nuc_base.specs.declared.platform.Platform.{Platform}
 use Rattle.records.specs.Stored.{Item}
 use Rattle.recipe_reader.specs.Members.{members, IsRising}
-use Rattle.recipe_reader.specs.Candidates.{IsReadFor, IsAdded, Clashes, nucleus_name}
+use Rattle.recipe_reader.specs.Candidates.{IsReadFor, IsAdded, HasClash, nucleus_name}
 use Rattle.recipe_reader.specs.declared.candidate.Candidate.{Candidate}
 use Rattle.recipe_reader.specs.declared.candidates.AddRefusal.{AddRefusal}
 use Rattle.recipe_reader.specs.declared.candidates.AddRefusal.TheVariants as add
@@ -43,8 +43,8 @@ IsOf c i = (i.name ≡ c.recipe.name) × (i.version ≡ c.recipe.version)
 abbrev pub is_of : Candidate → Item → Bool
 is_of c i = pointwise nat_eq i.name c.recipe.name && pointwise nat_eq i.version c.recipe.version
 
-abbrev pub Keeps : List Item → Candidate → Type 0
-Keeps kept c = (i : Item) × Contains kept i × IsOf c i
+abbrev pub IsAmongKept : List Item → Candidate → Type 0
+IsAmongKept kept c = (i : Item) × Contains kept i × IsOf c i
 
 -- ---- refusals
 
@@ -54,30 +54,30 @@ IsClashOf (add.Clash c) fault = fault ≡ RecipeDiffers c.recipe.name c.recipe.v
 IsClashOf (add.NoMemory c) fault = fault ≡ NoMemory
 
 abbrev pub IsDiffering : List Candidate → Candidate → CandidatesFault → Type 0
-IsDiffering cs c fault = (fault ≡ NoMemory) ⊎ (Clashes cs c × (fault ≡ RecipeDiffers c.recipe.name c.recipe.version))
+IsDiffering cs c fault = (fault ≡ NoMemory) ⊎ (HasClash cs c × (fault ≡ RecipeDiffers c.recipe.name c.recipe.version))
 
 -- of a recipe: by whether the device keeps its name and version
-abbrev pub Decides : List Item → Candidate → CandidatesFault → Type 0
-Decides kept c fault =
-    (Keeps kept c × (fault ≡ RecipeDiffers c.recipe.name c.recipe.version))
-    ⊎ ((Keeps kept c → ⊥) × (fault ≡ TwoRecipes c.recipe.name c.recipe.version))
+abbrev pub IsClashFault : List Item → Candidate → CandidatesFault → Type 0
+IsClashFault kept c fault =
+    (IsAmongKept kept c × (fault ≡ RecipeDiffers c.recipe.name c.recipe.version))
+    ⊎ ((IsAmongKept kept c → ⊥) × (fault ≡ TwoRecipes c.recipe.name c.recipe.version))
 
 abbrev pub IsRefusal : List Item → AddRefusal → CandidatesFault → Type 0
-IsRefusal kept (add.Clash c) fault = Decides kept c fault
+IsRefusal kept (add.Clash c) fault = IsClashFault kept c fault
 IsRefusal kept (add.NoMemory c) fault = fault ≡ NoMemory
 
 -- what joining a candidate answers, where nothing clashed before
-abbrev pub Joins : List Item → Candidate → List Candidate → Result (List Candidate) CandidatesFault → Type 0
-Joins kept c cs result = MatchResult result
+abbrev pub JoinOutcome : List Item → Candidate → List Candidate → Result (List Candidate) CandidatesFault → Type 0
+JoinOutcome kept c cs result = MatchResult result
     (λ new. IsAdded cs c new × IsRising (members new))
-    (λ fault. (fault ≡ NoMemory) ⊎ (Clashes cs c × Decides kept c fault))
+    (λ fault. (fault ≡ NoMemory) ⊎ (HasClash cs c × IsClashFault kept c fault))
 
 abbrev pub IsJoined : List Item → Candidate → Result (List Candidate) CandidatesFault → Result (List Candidate) CandidatesFault → Type 0
-IsJoined kept c gathered result = MatchResult gathered (λ cs. Joins kept c cs result) (λ fault. result ≡ Err fault)
+IsJoined kept c gathered result = MatchResult gathered (λ cs. JoinOutcome kept c cs result) (λ fault. result ≡ Err fault)
 
 -- what is refused at once
-abbrev pub Stops : Platform → List ℕ → ℕ → CandidatesFault → Type 0
-Stops p bytes at f = (f ≡ NoMemory) ⊎ ((fault : RecipeFault) × (f ≡ Recipe at fault) × IsFaulty p bytes fault)
+abbrev pub IsRefusedAtOnce : Platform → List ℕ → ℕ → CandidatesFault → Type 0
+IsRefusedAtOnce p bytes at f = (f ≡ NoMemory) ⊎ ((fault : RecipeFault) × (f ≡ Recipe at fault) × IsFaulty p bytes fault)
 
 abbrev pub IsStopped : ℕ → RecipeFault → CandidatesFault → Type 0
 IsStopped at fault f = ((fault ≡ OutOfMemory) × (f ≡ NoMemory)) ⊎ ((fault ≢ OutOfMemory) × (f ≡ Recipe at fault))

@@ -54,8 +54,8 @@ pub record IsTaken (p : Platform) (bytes : List ℕ) (s : Source) : Type 0 where
 abbrev pub IsSkipped : Platform → List ℕ → Type 0
 IsSkipped p bytes = IsFault bytes p NoManifest ⊎ ((recipe : Recipe) × ReadsRecipe bytes p (Ok recipe) × (recipe.name ≡ nucleus_name))
 
-abbrev pub Passes : Platform → List ℕ → Type 0
-Passes p bytes = IsSkipped p bytes ⊎ ((s : Source) × IsTaken p bytes s)
+abbrev pub MayPass : Platform → List ℕ → Type 0
+MayPass p bytes = IsSkipped p bytes ⊎ ((s : Source) × IsTaken p bytes s)
 
 -- any other fault
 abbrev pub IsFaulty : Platform → List ℕ → RecipeFault → Type 0
@@ -68,8 +68,8 @@ abbrev pub IsSource : List Source → Platform → List (List ℕ) → Source �
 IsSource mine p recipes s = Contains mine s ⊎ ((bytes : List ℕ) × Contains recipes bytes × IsTaken p bytes s)
 
 -- no two of them clash
-abbrev pub Agree : (Source → Type 0) → Type 0
-Agree P = (a b : Source) → P a → P b → Clash a b → ⊥
+abbrev pub HasNoClash : (Source → Type 0) → Type 0
+HasNoClash P = (a b : Source) → P a → P b → Clash a b → ⊥
 
 -- one of them clashes with it
 abbrev pub IsAgainst : (Source → Type 0) → Source → Type 0

@@ -18,7 +18,7 @@ pub enum LibraryFault {
 pub enum Piece {
     /// There is no such artifact.
     Missing,
-    /// So many bytes stand at the front of the slice. None in a slice that is not empty is the end.
+    /// So many bytes stand at the beginning of the slice. None in a slice that is not empty is the end.
     Bytes(usize),
 }
 

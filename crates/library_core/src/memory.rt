@@ -3,7 +3,7 @@ ghost use Rattle.nuc_base.specs.Faults.{Rose};
 ghost use Rattle.nuc_base.specs.Failing.{failing_numbers, calls_of, faults_of, IsCounted};
 
 use crate::library::{Library, LibraryFault, Piece};
-use crate::stored::{find, front_of, piece_of};
+use crate::stored::{find, piece_of, prefix_of};
 use npm_ranges::Version;
 use nuc_base::{Bytes, Failing, Label, List, Name};
 use std::alloc::Global;
@@ -84,7 +84,7 @@ impl Library for MemoryLibrary {
         if self.failing.fails() {
             return Err(LibraryFault::Failed);
         }
-        front_of(alloc, self.recipes.as_slice(), at as usize)
+        prefix_of(alloc, self.recipes.as_slice(), at as usize)
     }
 
     fn artifact(

@@ -6,7 +6,7 @@ ghost use Rattle.library_core.specs.Memory.{is_stored, stored_in};
 use crate::library::{LibraryFault, Piece};
 use crate::memory::Stored;
 use npm_ranges::Version;
-use nuc_base::{Bytes, Label, Name, copy_front};
+use nuc_base::{Bytes, Label, Name, copy_prefix};
 use std::alloc::Global;
 
 /// The most bytes of a recipe that a call gives: one more than a recipe may have.
@@ -41,13 +41,13 @@ fn copy_part(bytes: &[u8], from: u64, into: &mut [u8]) -> usize
     ensures bound { result ≤ length into.old }
 {
     let start = (from.min(bytes.len() as u64)) as usize;
-    copy_front(&bytes[start..], into)
+    copy_prefix(&bytes[start..], into)
 }
 
 /// A copy of the recipe at that place, or of its first bytes.
-pub(crate) fn front_of(alloc: Global, recipes: &[Bytes], at: usize) -> Result<Bytes, LibraryFault>
+pub(crate) fn prefix_of(alloc: Global, recipes: &[Bytes], at: usize) -> Result<Bytes, LibraryFault>
     requires { at < length recipes.now }
-    ensures told { IfOk result (λ bytes. bytes ≡ take most_given (slice_index_or recipes.now at [])) }
+    ensures answers { IfOk result (λ bytes. bytes ≡ take most_given (slice_index_or recipes.now at [])) }
     ensures short { IfOk result (λ bytes. length bytes ≤ most_given) }
     ensures fault { IfErr result (λ fault. fault ≡ LibraryFault.NoMemory) }
 {
@@ -60,7 +60,7 @@ pub(crate) fn front_of(alloc: Global, recipes: &[Bytes], at: usize) -> Result<By
 }
 
 pub(crate) fn piece_of(found: Option<&Bytes>, from: u64, into: &mut [u8]) -> Piece
-    ensures told { IsPieceOf (option_map (λ b. b.now) found.entry) from into.old into.new result }
+    ensures answers { IsPieceOf (option_map (λ b. b.now) found.entry) from into.old into.new result }
     ensures bound { IsWithin (length into.old) result }
 {
     match found {

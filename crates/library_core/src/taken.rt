@@ -5,8 +5,8 @@ ghost use Rattle.nuc_base.specs.declared.platform.Platform.{Platform};
 ghost use Rattle.records.specs.Stored.{item_view};
 ghost use Rattle.recipe_reader.specs.Candidates.{IsRead, nucleus_name};
 ghost use Rattle.library_core.specs.Library.{most_given};
-ghost use Rattle.library_core.specs.Sources.{own, Passes};
-ghost use Rattle.library_core.specs.SoFar.{IsSoFar, IsOther, is_of, IsUnread, IsSifted, Stops, IsJoined, IsRefusal, Decides, IsStopped};
+ghost use Rattle.library_core.specs.Sources.{own, MayPass};
+ghost use Rattle.library_core.specs.SoFar.{IsSoFar, IsOther, is_of, IsUnread, IsSifted, IsRefusedAtOnce, IsJoined, IsRefusal, IsClashFault, IsStopped};
 
 use crate::fault::CandidatesFault;
 use crate::given_up::{give_up, name_of};
@@ -65,7 +65,7 @@ fn keeps(kept: &[Item], candidate: &Candidate) -> bool
 }
 
 fn clash_of(kept: &[Item], candidate: Candidate) -> CandidatesFault
-    ensures { Decides (map item_view kept.now) candidate result }
+    ensures { IsClashFault (map item_view kept.now) candidate result }
 {
     let is_kept = keeps(kept, &candidate);
     let (name, version) = name_of(candidate);
@@ -130,8 +130,8 @@ pub(crate) fn take_in(
     ensures next { (b : List ℕ) → (before : List (List ℕ)) → bytes ≡ take most_given b → IsSoFar (own origin.now (map item_view kept.now)) origin.now.platform
         before gathered
         → MatchResult result
-        (λ next. Passes origin.now.platform b × IsSoFar (own origin.now (map item_view kept.now)) origin.now.platform (before ++ b ∷ []) next)
-        (Stops origin.now.platform b at) }
+        (λ next. MayPass origin.now.platform b × IsSoFar (own origin.now (map item_view kept.now)) origin.now.platform (before ++ b ∷ []) next)
+        (IsRefusedAtOnce origin.now.platform b at) }
     ensures few { (n : ℕ) → IfOk gathered (λ cs. length cs ≤ n) → IfOk result (λ next. IfOk next (λ cs. length cs ≤ n + 1)) }
     ensures held { IfErr gathered (λ f. f ≢ CandidatesFault.Library) → IfOk result (λ next. IfErr next (λ f. f ≢ CandidatesFault.Library)) }
     ensures fault { IfErr result (λ fault. fault ≢ CandidatesFault.Library) }

@@ -41,13 +41,13 @@ abbrev pub BeginsItsSteps : Type 0
 BeginsItsSteps = EachRow (λ c event act d. (d.steps ≡ c.steps) × (begins_own act d ≡ true))
 
 -- each failure is counted, the third breaks, and nothing but a stop with Again takes failures away
-abbrev pub Counts : LifeAct → Life → Life → Type 0
-Counts (Failed step exit) c d = (d.state ≡ Errored) × (d.failures ≡ c.failures + 1) × (d.failures < 3)
-Counts (Broke step exit) c d = (d.state ≡ Broken) × (c.failures ≡ 2) × (d.failures ≡ 3)
-Counts act c d = (d.failures ≡ c.failures) ⊎ (d ≡ begun c.steps 0)
+abbrev pub AreFailuresCounted : LifeAct → Life → Life → Type 0
+AreFailuresCounted (Failed step exit) c d = (d.state ≡ Errored) × (d.failures ≡ c.failures + 1) × (d.failures < 3)
+AreFailuresCounted (Broke step exit) c d = (d.state ≡ Broken) × (c.failures ≡ 2) × (d.failures ≡ 3)
+AreFailuresCounted act c d = (d.failures ≡ c.failures) ⊎ (d ≡ begun c.steps 0)
 
 abbrev pub CountsFailures : Type 0
-CountsFailures = EachRow (λ c event act d. Counts act c d)
+CountsFailures = EachRow (λ c event act d. AreFailuresCounted act c d)
 
 abbrev pub is_kill : LifeAct → Bool
 is_kill Kill = true

@@ -2,7 +2,7 @@
 use Rattle.std.proofs.Common.{◌≡◌, ℕ, List, [], ◌∷◌, inl, inr, ap, sym, subst, ◌∙◌}
 use Rattle.std.specs.List.{All, AllZip, Contains}
 use Rattle.std.proofs.lemmas.List.Elements.{All-nil, All-cons}
-use Rattle.nuc_base.specs.Tables.{Table, AllHold, Faults, IsFirst, each}
+use Rattle.nuc_base.specs.Tables.{Table, AllHold, IsFaultBy, IsFirst, each}
 use Rattle.nuc_base.proofs.Tables.{fault_along, fault_before, first_after, all_both}
 use Rattle.serde_json.specs.Data.{Data, string}
 use Rattle.local_deploy.specs.Lines.{apart_lines, names_apart}
@@ -31,7 +31,8 @@ module _ {X : Type 0} (lines : X → Table LocalFault) (all : List X) where
     holds = λ more. c.holds (all_both (lines x) (each lines rest) h more);
   }
 
-  pub checked_fault : (rest : List X) (x : X) (f : LocalFault) → Checked lines all (x ∷ rest) → Faults NoMemory (lines x) f → Faults NoMemory (each lines all) f
+  pub checked_fault : (rest : List X) (x : X) (f : LocalFault) → Checked lines all (x ∷ rest) → IsFaultBy NoMemory (lines x) f
+      → IsFaultBy NoMemory (each lines all) f
   checked_fault rest x f c h = fault_along NoMemory (each lines (x ∷ rest)) (each lines all) f c.faults
       (fault_before NoMemory (lines x) (each lines rest) f h)
 
@@ -63,7 +64,7 @@ module _ (vs : List Data) (names remove : List (List ℕ)) (are : AllZip IsNamed
   )
 
   pub apart_fault : (ms : List (List ℕ × Data)) (rs : List Merged) → AllZip IsMerged ms rs → (f : LocalFault)
-      → Faults NoMemory (each (names_apart remove) rs) f → Faults NoMemory (each (apart_lines vs) ms) f
+      → IsFaultBy NoMemory (each (names_apart remove) rs) f → IsFaultBy NoMemory (each (apart_lines vs) ms) f
   apart_fault ms rs z f h = fault_along NoMemory (each (names_apart remove) rs) (each (apart_lines vs) ms) f (first_apart ms rs z) h
 
   -- what was read of lines that hold is apart

@@ -1,7 +1,7 @@
 -- Where the fault of some lines is that of all lines.
 use Rattle.std.proofs.Common.{[], ◌∷◌, ◌++◌}
 use Rattle.serde_json.specs.Data.{Data}
-use Rattle.nuc_base.specs.Tables.{Table, AllHold, Faults, each}
+use Rattle.nuc_base.specs.Tables.{Table, AllHold, IsFaultBy, each}
 use Rattle.nuc_base.proofs.Tables.{fault_after, fault_before, all_both}
 use Rattle.tree_core.specs.Parts.{check, IsObject}
 use Rattle.deployment_doc.specs.Named.{components as members_in}
@@ -77,29 +77,29 @@ module _ (d : Data) where
   -- ---- where one fails
 
   module _ (f : LocalFault) where
-    pub at_apart : AllHold above_aparts → Faults NoMemory aparts f → Faults NoMemory (request_lines d) f
+    pub at_apart : AllHold above_aparts → IsFaultBy NoMemory aparts f → IsFaultBy NoMemory (request_lines d) f
     at_apart above h = fault_after NoMemory above_aparts aparts f above h
 
-    pub at_updates : AllHold above_updates → Faults NoMemory updates f → Faults NoMemory (request_lines d) f
+    pub at_updates : AllHold above_updates → IsFaultBy NoMemory updates f → IsFaultBy NoMemory (request_lines d) f
     at_updates above h = fault_before NoMemory above_aparts aparts f (fault_after NoMemory above_updates updates f above h)
 
-    from_removes : Faults NoMemory above_updates f → Faults NoMemory (request_lines d) f
+    from_removes : IsFaultBy NoMemory above_updates f → IsFaultBy NoMemory (request_lines d) f
     from_removes h = fault_before NoMemory above_aparts aparts f (fault_before NoMemory above_updates updates f h)
 
-    pub at_removes : AllHold above_removes → Faults NoMemory removes f → Faults NoMemory (request_lines d) f
+    pub at_removes : AllHold above_removes → IsFaultBy NoMemory removes f → IsFaultBy NoMemory (request_lines d) f
     at_removes above h = from_removes (fault_after NoMemory above_removes removes f above h)
 
-    from_merges : Faults NoMemory above_removes f → Faults NoMemory (request_lines d) f
+    from_merges : IsFaultBy NoMemory above_removes f → IsFaultBy NoMemory (request_lines d) f
     from_merges h = from_removes (fault_before NoMemory above_removes removes f h)
 
-    pub at_merges : AllHold above_merges → Faults NoMemory merges f → Faults NoMemory (request_lines d) f
+    pub at_merges : AllHold above_merges → IsFaultBy NoMemory merges f → IsFaultBy NoMemory (request_lines d) f
     at_merges above h = from_merges (fault_after NoMemory above_merges merges f above h)
 
-    from_policies : Faults NoMemory above_merges f → Faults NoMemory (request_lines d) f
+    from_policies : IsFaultBy NoMemory above_merges f → IsFaultBy NoMemory (request_lines d) f
     from_policies h = from_merges (fault_before NoMemory above_merges merges f h)
 
-    pub at_policies : AllHold above_policies → Faults NoMemory policies f → Faults NoMemory (request_lines d) f
+    pub at_policies : AllHold above_policies → IsFaultBy NoMemory policies f → IsFaultBy NoMemory (request_lines d) f
     at_policies above h = from_policies (fault_after NoMemory above_policies policies f above h)
 
-    pub at_ids : IsObject d → Faults NoMemory ids f → Faults NoMemory (request_lines d) f
+    pub at_ids : IsObject d → IsFaultBy NoMemory ids f → IsFaultBy NoMemory (request_lines d) f
     at_ids o h = from_policies (fault_before NoMemory above_policies policies f (fault_after NoMemory objects ids f (o, tt) h))

@@ -9,7 +9,7 @@ use Rattle.std.proofs.lemmas.List.Elements.{All-cons, All-nil}
 use Rattle.std.proofs.lemmas.Slice.Zip.{AllZip-long}
 use Rattle.serde_json.specs.Data.{Data}
 use Rattle.serde_json.specs.Find.{get}
-use Rattle.nuc_base.specs.Tables.{AllHold, Answers, on}
+use Rattle.nuc_base.specs.Tables.{AllHold, AnswerBy, on}
 use Rattle.nuc_base.proofs.Tables.{hold_last}
 use Rattle.tree_core.specs.Parts.{IsObject, members}
 use Rattle.tree_core.specs.Regular.{IsRegular}
@@ -105,7 +105,7 @@ request_sound d request r h is =
       objects = all_object (members_in (value_of key.UpdateConfig d)) request.updates is.updates;
     }
 
-pub sound : (d : Data) (result : Result LocalRequest LocalFault) → IsRegular d → Answers NoMemory (request_lines d) (IsRequest d) result
+pub sound : (d : Data) (result : Result LocalRequest LocalFault) → IsRegular d → AnswerBy NoMemory (request_lines d) (IsRequest d) result
     → IfOk result IsSoundRequest
 sound d (Err f) r h = tt
 sound d (Ok request) r h = request_sound d request r h.0 h.1

@@ -43,12 +43,12 @@ pub record IsListAfter (d : Device) (request : LocalRequest) (list : Asked) : Ty
   pub removed : HasNone (IsNotAsked (local_asked d.groups) request.remove)
   pub is : IsLocalList (local_asked d.groups) request.merge request.remove list
 
-abbrev pub Refuses : Device → LocalRequest → LocalRefusal → Type 0
-Refuses d request (refusal.NotLocal name) = IsLeast (IsNotAsked (local_asked d.groups) request.remove) name
-Refuses d request (refusal.TooManyLocal count) = (list : Asked) × IsListAfter d request list × (count ≡ length list) × (128 < length list)
-Refuses d request (refusal.Unlisted name) =
+abbrev pub IsLocalRefusal : Device → LocalRequest → LocalRefusal → Type 0
+IsLocalRefusal d request (refusal.NotLocal name) = IsLeast (IsNotAsked (local_asked d.groups) request.remove) name
+IsLocalRefusal d request (refusal.TooManyLocal count) = (list : Asked) × IsListAfter d request list × (count ≡ length list) × (128 < length list)
+IsLocalRefusal d request (refusal.Unlisted name) =
     (list : Asked) × IsListAfter d request list × (length list ≤ 128) × IsLeast (IsUnlisted list request.updates) name
-Refuses d request refusal.NoMemory = ⊥
+IsLocalRefusal d request refusal.NoMemory = ⊥
 
 -- ---- the document
 
@@ -69,4 +69,4 @@ pub record IsLocalDocument (d : Device) (request : LocalRequest) (document : Doc
 
 -- The document where nothing is refused, else the first refusal. Want of memory is free.
 abbrev pub MakesLocal : Device → LocalRequest → Result Document LocalRefusal → Type 0
-MakesLocal d request result = MatchResult result (IsLocalDocument d request) (λ f. (f ≡ refusal.NoMemory) ⊎ Refuses d request f)
+MakesLocal d request result = MatchResult result (IsLocalDocument d request) (λ f. (f ≡ refusal.NoMemory) ⊎ IsLocalRefusal d request f)

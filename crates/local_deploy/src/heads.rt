@@ -2,7 +2,7 @@
 ghost use Rattle.std.specs.Prelude.{◌≡◌, Some};
 ghost use Rattle.serde_json.specs.Data.{string};
 ghost use Rattle.serde_json.specs.Find.{get};
-ghost use Rattle.nuc_base.specs.Tables.{Answers};
+ghost use Rattle.nuc_base.specs.Tables.{AnswerBy};
 ghost use Rattle.tree_core.specs.View.{view};
 ghost use Rattle.deployment_doc.specs.Named.{IsPolicy, policy_word};
 ghost use Rattle.local_deploy.specs.Lines.{at_optional, at_required, label_lines, policy_lines, value_of};
@@ -19,7 +19,7 @@ use tree_core::Tree;
 const DEFAULT: Policy = Policy::Rollback;
 
 pub(crate) fn id_of(alloc: Global, tree: &Tree) -> Result<Label, LocalFault>
-    ensures { Answers OutOfMemory
+    ensures { AnswerBy OutOfMemory
         (at_required key.DeploymentId (view tree.now) label_lines)
         (λ id. get (spelled key.DeploymentId) (view tree.now) ≡ Some (string id))
         result }
@@ -31,7 +31,7 @@ pub(crate) fn id_of(alloc: Global, tree: &Tree) -> Result<Label, LocalFault>
 }
 
 fn label_of(alloc: Global, tree: &Tree) -> Result<Label, LocalFault>
-    ensures { Answers OutOfMemory (label_lines (view tree.now)) (λ l. view tree.now ≡ string l) result }
+    ensures { AnswerBy OutOfMemory (label_lines (view tree.now)) (λ l. view tree.now ≡ string l) result }
 {
     let Tree::Text(text) = tree else {
         return Err(LocalFault::WrongKind(Key::DeploymentId));
@@ -44,7 +44,7 @@ fn label_of(alloc: Global, tree: &Tree) -> Result<Label, LocalFault>
 }
 
 pub(crate) fn policy_of(tree: &Tree) -> Result<Policy, LocalFault>
-    ensures { Answers OutOfMemory
+    ensures { AnswerBy OutOfMemory
         (at_optional key.FailureHandlingPolicy (view tree.now) policy_lines)
         (IsPolicy (value_of key.FailureHandlingPolicy (view tree.now)))
         result }
@@ -56,7 +56,7 @@ pub(crate) fn policy_of(tree: &Tree) -> Result<Policy, LocalFault>
 }
 
 fn policy_named(policy: &Tree) -> Result<Policy, LocalFault>
-    ensures { Answers OutOfMemory (policy_lines (view policy.now)) (λ p. view policy.now ≡ string (policy_word p)) result }
+    ensures { AnswerBy OutOfMemory (policy_lines (view policy.now)) (λ p. view policy.now ≡ string (policy_word p)) result }
 {
     let Tree::Text(word) = policy else {
         return Err(LocalFault::WrongKind(Key::FailureHandlingPolicy));

@@ -3,7 +3,7 @@ ghost use Rattle.std.specs.Prelude.{◌≡◌, map};
 ghost use Rattle.std.specs.List.{AllZip};
 ghost use Rattle.serde_json.specs.Data.{string};
 ghost use Rattle.nuc_base.specs.Names.{IsName};
-ghost use Rattle.nuc_base.specs.Tables.{Answers, each};
+ghost use Rattle.nuc_base.specs.Tables.{AnswerBy, each};
 ghost use Rattle.tree_core.specs.View.{view, field_view};
 ghost use Rattle.tree_core.specs.Parts.{members, check};
 ghost use Rattle.deployment_doc.specs.Named.{components as members_in};
@@ -22,7 +22,7 @@ use tree_core::Tree;
 pub(crate) const MOST_NAMES: usize = 128;
 
 pub(crate) fn merge_of(alloc: Global, tree: &Tree) -> Result<List<(Name, Range)>, LocalFault>
-    ensures { Answers OutOfMemory
+    ensures { AnswerBy OutOfMemory
         (at_optional key.Merge (view tree.now) merge_lines)
         (AllZip IsMerged (members_in (value_of key.Merge (view tree.now))))
         result }
@@ -34,7 +34,7 @@ pub(crate) fn merge_of(alloc: Global, tree: &Tree) -> Result<List<(Name, Range)>
 }
 
 fn merge_in(alloc: Global, merge: &Tree) -> Result<List<(Name, Range)>, LocalFault>
-    ensures { Answers OutOfMemory (merge_lines (view merge.now)) (AllZip IsMerged (members (view merge.now))) result }
+    ensures { AnswerBy OutOfMemory (merge_lines (view merge.now)) (AllZip IsMerged (members (view merge.now))) result }
 {
     let Tree::Fields(fields) = merge else {
         return Err(LocalFault::WrongKind(Key::Merge));
@@ -46,7 +46,7 @@ fn merge_in(alloc: Global, merge: &Tree) -> Result<List<(Name, Range)>, LocalFau
 }
 
 fn merge_among(alloc: Global, fields: &Vec<(Text, Tree)>) -> Result<List<(Name, Range)>, LocalFault>
-    ensures { Answers OutOfMemory
+    ensures { AnswerBy OutOfMemory
         (each merged_lines (map field_view fields.now.items))
         (AllZip IsMerged (map field_view fields.now.items))
         result }
@@ -60,7 +60,7 @@ fn merge_among(alloc: Global, fields: &Vec<(Text, Tree)>) -> Result<List<(Name, 
 }
 
 fn merged_of(alloc: Global, name: &Text, range: &Tree) -> Result<(Name, Range), LocalFault>
-    ensures { Answers OutOfMemory (merged_lines (name.now, view range.now)) (IsMerged (name.now, view range.now)) result }
+    ensures { AnswerBy OutOfMemory (merged_lines (name.now, view range.now)) (IsMerged (name.now, view range.now)) result }
 {
     let name = name_of(alloc, name.as_str().as_bytes(), Key::Merge)?;
     let range = range_of(alloc, &name, range)?;
@@ -69,7 +69,7 @@ fn merged_of(alloc: Global, name: &Text, range: &Tree) -> Result<(Name, Range), 
 
 /// The name that a text is, in the value of this key.
 pub(crate) fn name_of(alloc: Global, bytes: &[u8], key: Key) -> Result<Name, LocalFault>
-    ensures { Answers OutOfMemory (check (IsName bytes.now) (BadName key)) (λ name. name ≡ bytes.now) result }
+    ensures { AnswerBy OutOfMemory (check (IsName bytes.now) (BadName key)) (λ name. name ≡ bytes.now) result }
 {
     match Name::read(alloc, bytes) {
         Ok(name) => Ok(name),
@@ -79,7 +79,7 @@ pub(crate) fn name_of(alloc: Global, bytes: &[u8], key: Key) -> Result<Name, Loc
 }
 
 fn range_of(alloc: Global, name: &Name, value: &Tree) -> Result<Range, LocalFault>
-    ensures { Answers OutOfMemory (range_lines name.now (view value.now)) (λ range. view value.now ≡ string range) result }
+    ensures { AnswerBy OutOfMemory (range_lines name.now (view value.now)) (λ range. view value.now ≡ string range) result }
 {
     let Tree::Text(text) = value else {
         return Err(LocalFault::WrongKind(Key::Merge));

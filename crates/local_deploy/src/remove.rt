@@ -3,7 +3,7 @@ ghost use Rattle.std.specs.Prelude.{◌≡◌, Some, map, IfOk, OnOk};
 ghost use Rattle.std.specs.List.{AllZip, list_any};
 ghost use Rattle.std.specs.Str.{bytes_eq};
 ghost use Rattle.serde_json.specs.Data.{string};
-ghost use Rattle.nuc_base.specs.Tables.{Answers, each};
+ghost use Rattle.nuc_base.specs.Tables.{AnswerBy, each};
 ghost use Rattle.tree_core.specs.View.{view};
 ghost use Rattle.tree_core.specs.Parts.{values};
 ghost use Rattle.local_deploy.specs.Lines.{at_optional, remove_lines, removed_lines, value_of};
@@ -18,7 +18,7 @@ use std::alloc::Global;
 use tree_core::Tree;
 
 pub(crate) fn remove_of(alloc: Global, tree: &Tree) -> Result<List<Name>, LocalFault>
-    ensures { Answers OutOfMemory
+    ensures { AnswerBy OutOfMemory
         (at_optional key.Remove (view tree.now) remove_lines)
         (AreRemoved (value_of key.Remove (view tree.now)))
         result }
@@ -30,14 +30,14 @@ pub(crate) fn remove_of(alloc: Global, tree: &Tree) -> Result<List<Name>, LocalF
 }
 
 fn remove_in(alloc: Global, remove: &Tree) -> Result<List<Name>, LocalFault>
-    ensures { Answers OutOfMemory (remove_lines (view remove.now)) (AreRemoved (Some (view remove.now))) result }
+    ensures { AnswerBy OutOfMemory (remove_lines (view remove.now)) (AreRemoved (Some (view remove.now))) result }
 {
     let names = names_in(alloc, remove)?;
     Ok(each_once(alloc, names)?)
 }
 
 fn names_in(alloc: Global, remove: &Tree) -> Result<List<Name>, LocalFault>
-    ensures { Answers OutOfMemory (remove_lines (view remove.now)) (AllZip IsNamed (values (view remove.now))) result }
+    ensures { AnswerBy OutOfMemory (remove_lines (view remove.now)) (AllZip IsNamed (values (view remove.now))) result }
 {
     let Tree::Items(items) = remove else {
         return Err(LocalFault::WrongKind(Key::Remove));
@@ -49,7 +49,7 @@ fn names_in(alloc: Global, remove: &Tree) -> Result<List<Name>, LocalFault>
 }
 
 fn names_among(alloc: Global, items: &Vec<Tree>) -> Result<List<Name>, LocalFault>
-    ensures { Answers OutOfMemory
+    ensures { AnswerBy OutOfMemory
         (each removed_lines (map view items.now.items))
         (AllZip IsNamed (map view items.now.items))
         result }
@@ -63,7 +63,7 @@ fn names_among(alloc: Global, items: &Vec<Tree>) -> Result<List<Name>, LocalFaul
 }
 
 fn removed_of(alloc: Global, item: &Tree) -> Result<Name, LocalFault>
-    ensures { Answers OutOfMemory (removed_lines (view item.now)) (λ name. view item.now ≡ string name) result }
+    ensures { AnswerBy OutOfMemory (removed_lines (view item.now)) (λ name. view item.now ≡ string name) result }
 {
     let Tree::Text(text) = item else {
         return Err(LocalFault::WrongKind(Key::Remove));

@@ -1,6 +1,6 @@
 //! A request as it is read.
 ghost use Rattle.std.specs.Prelude.{⊤, IfOk};
-ghost use Rattle.nuc_base.specs.Tables.{Answers, each};
+ghost use Rattle.nuc_base.specs.Tables.{AnswerBy, each};
 ghost use Rattle.tree_core.specs.View.{view};
 ghost use Rattle.tree_core.specs.Regular.{IsRegular};
 ghost use Rattle.local_deploy.specs.Lines.{request_lines, names_apart};
@@ -55,7 +55,7 @@ impl LocalRequest {
 
 fn request_of(alloc: Global, tree: &Tree) -> Result<LocalRequest, LocalFault>
     requires { IsRegular (view tree.now) }
-    ensures { Answers OutOfMemory (request_lines (view tree.now)) (IsRequest (view tree.now)) result }
+    ensures { AnswerBy OutOfMemory (request_lines (view tree.now)) (IsRequest (view tree.now)) result }
 {
     let Tree::Fields(_) = tree else {
         return Err(LocalFault::WrongKind(Key::Request));
@@ -77,7 +77,7 @@ fn request_of(alloc: Global, tree: &Tree) -> Result<LocalRequest, LocalFault>
 
 /// That no name is merged and removed.
 fn check_apart(alloc: Global, merge: &[(Name, Range)], remove: &[Name]) -> Result<(), LocalFault>
-    ensures { Answers OutOfMemory (each (names_apart remove.now) merge.now) (λ _. ⊤) result }
+    ensures { AnswerBy OutOfMemory (each (names_apart remove.now) merge.now) (λ _. ⊤) result }
 {
     for (name, _) in merge {
         if has_name(remove, name) {

@@ -2,7 +2,7 @@
 ghost use Rattle.std.specs.Prelude.{map};
 ghost use Rattle.std.specs.List.{AllZip};
 ghost use Rattle.serde_json.specs.Data.{object};
-ghost use Rattle.nuc_base.specs.Tables.{Answers, each};
+ghost use Rattle.nuc_base.specs.Tables.{AnswerBy, each};
 ghost use Rattle.tree_core.specs.View.{view, field_view, fields_view};
 ghost use Rattle.tree_core.specs.Parts.{members};
 ghost use Rattle.tree_core.specs.Regular.{IsRegular};
@@ -23,7 +23,7 @@ use tree_core::Tree;
 
 pub(crate) fn updates_of(alloc: Global, tree: &Tree) -> Result<List<(Name, Update)>, LocalFault>
     requires { IsRegular (view tree.now) }
-    ensures { Answers OutOfMemory
+    ensures { AnswerBy OutOfMemory
         (at_optional key.UpdateConfig (view tree.now) updates_lines)
         (AllZip IsUpdated (members_in (value_of key.UpdateConfig (view tree.now))))
         result }
@@ -36,7 +36,7 @@ pub(crate) fn updates_of(alloc: Global, tree: &Tree) -> Result<List<(Name, Updat
 
 fn updates_in(alloc: Global, updates: &Tree) -> Result<List<(Name, Update)>, LocalFault>
     requires { IsRegular (view updates.now) }
-    ensures { Answers OutOfMemory (updates_lines (view updates.now)) (AllZip IsUpdated (members (view updates.now))) result }
+    ensures { AnswerBy OutOfMemory (updates_lines (view updates.now)) (AllZip IsUpdated (members (view updates.now))) result }
 {
     let Tree::Fields(fields) = updates else {
         return Err(LocalFault::WrongKind(Key::UpdateConfig));
@@ -52,7 +52,7 @@ fn updates_among(
     fields: &Vec<(Text, Tree)>,
 ) -> Result<List<(Name, Update)>, LocalFault>
     requires { IsRegular (object (fields_view fields.now.items)) }
-    ensures { Answers OutOfMemory
+    ensures { AnswerBy OutOfMemory
         (each updated_lines (map field_view fields.now.items))
         (AllZip IsUpdated (map field_view fields.now.items))
         result }
@@ -67,7 +67,7 @@ fn updates_among(
 
 fn updated_of(alloc: Global, name: &Text, update: &Tree) -> Result<(Name, Update), LocalFault>
     requires { IsRegular (view update.now) }
-    ensures { Answers OutOfMemory (updated_lines (name.now, view update.now)) (IsUpdated (name.now, view update.now)) result }
+    ensures { AnswerBy OutOfMemory (updated_lines (name.now, view update.now)) (IsUpdated (name.now, view update.now)) result }
 {
     let name = name_of(alloc, name.as_str().as_bytes(), Key::UpdateConfig)?;
     let Tree::Fields(_) = update else {
@@ -79,7 +79,7 @@ fn updated_of(alloc: Global, name: &Text, update: &Tree) -> Result<(Name, Update
 
 fn update_of(alloc: Global, name: &Name, update: &Tree) -> Result<Update, LocalFault>
     requires { IsRegular (view update.now) }
-    ensures { Answers OutOfMemory (handed update_fault (update_lines name.now (view update.now))) (IsUpdateOf (view update.now)) result }
+    ensures { AnswerBy OutOfMemory (handed update_fault (update_lines name.now (view update.now))) (IsUpdateOf (view update.now)) result }
 {
     match read_update(alloc, update, name) {
         Ok(update) => Ok(update),

@@ -20,7 +20,7 @@ use Rattle.npm_ranges.specs.declared.comparator.Sign.TheVariants as sign
 use Rattle.npm_ranges.specs.Grammar.{Spelled, Written, any_version, bare, comparator_of, comparators_of, each_of, is_blank, joined, lone_sign, partial_of}
 use Rattle.npm_ranges.specs.Grammar.{set_from, set_of, sets_of, sign_of, words_of, written}
 use Rattle.npm_ranges.specs.Laws.{IsBetween, IsPlain}
-use Rattle.npm_ranges.specs.Ranges.{Meets, lets_pre_in, meets_comparator, meets_full, meets_open, meets_set}
+use Rattle.npm_ranges.specs.Ranges.{IsInRange, lets_pre_in, meets_comparator, meets_full, meets_open, meets_set}
 use Rattle.npm_ranges.specs.Versions.{IsVersion, is_version_byte, parts_in, precedence}
 use Rattle.npm_ranges.proofs.Partials.{partial_full}
 use Rattle.npm_ranges.proofs.Reading.{one_word}
@@ -60,7 +60,8 @@ same_sets p q e sets =
     let t = precedence_ties p q e in
     (λ i. list_any (λ set. same_set p.0 p.1 p.2 p.3 p.4 q.4 set i) sets) ∙ (λ i. list_any (meets_set (t.major i, t.minor i, t.patch i, t.pre i, q.4)) sets)
 
-pub build_has_no_effect : (range version other : List ℕ) → precedence (parts_in version) (parts_in other) ≡ Equal → Meets version range → Meets other range
+pub build_has_no_effect : (range version other : List ℕ) → precedence (parts_in version) (parts_in other) ≡ Equal → IsInRange version range
+    → IsInRange other range
 build_has_no_effect range version other e m = (m.0, m.1, subst (λ b. IsTrue b) (same_sets (parts_in version) (parts_in other) e m.0) m.2)
 
 -- ---- the empty range
@@ -100,7 +101,7 @@ no_pre pre h = nil_from_length pre (eqb-true (length pre) 0 h)
 pub is_no_pre : (pre : List ℕ) → pre ≡ [] → (length pre == 0) ≡ true
 is_no_pre pre h = rw h refl
 
-pub empty_holds : (version : List ℕ) → Meets version [] ↔ ((parts_in version).3 ≡ [])
+pub empty_holds : (version : List ℕ) → IsInRange version [] ↔ ((parts_in version).3 ≡ [])
 empty_holds version =
     let p = parts_in version in (
       λ m.
@@ -259,7 +260,7 @@ is_lt_of : (r : Ordering) → r ≡ Less → is_lt r ≡ true
 is_lt_of r h = rw h refl
 
 between_at : (text a b version : List ℕ) → written text ≡ Some (bounds a b ∷ []) → (parts_in a).3 ≡ [] → (parts_in b).3 ≡ [] →
-    Meets version text ↔ IsBetween version a b
+    IsInRange version text ↔ IsBetween version a b
 between_at text a b version is plain also =
     let p = parts_in version in
     let low = is_ge (precedence p (parts_in a)) in
@@ -282,7 +283,7 @@ between_at text a b version is plain also =
       ),
     )
 
-pub between_holds : (a b version : List ℕ) → IsPlain a → IsPlain b → Meets version (codes ">=" ++ a ++ codes " <" ++ b) ↔ IsBetween version a b
+pub between_holds : (a b version : List ℕ) → IsPlain a → IsPlain b → IsInRange version (codes ">=" ++ a ++ codes " <" ++ b) ↔ IsBetween version a b
 between_holds a b version low high =
     let text : List ℕ = 62 ∷ 61 ∷ (a ++ 32 ∷ 60 ∷ b) in
     let is : written (codes ">=" ++ a ++ codes " <" ++ b) ≡ Some (bounds a b ∷ []) =

@@ -16,7 +16,7 @@ use Rattle.npm_ranges.specs.declared.comparator.Sign.{Sign}
 use Rattle.npm_ranges.specs.declared.comparator.Sign.TheVariants as sign
 use Rattle.npm_ranges.specs.Grammar.{Written, written}
 use Rattle.npm_ranges.specs.Laws.{IsPlain, IsWithin, Spelling, caret_end, numbers, sign_text, tilde_end}
-use Rattle.npm_ranges.specs.Ranges.{Meets, agree, lets_pre_in, meets_set, meets_comparator, up_to_nonzero}
+use Rattle.npm_ranges.specs.Ranges.{IsInRange, agree, lets_pre_in, meets_set, meets_comparator, up_to_nonzero}
 use Rattle.npm_ranges.specs.Versions.{parts_in, precedence}
 use Rattle.npm_ranges.proofs.Holding.{ge_is, is_ge_of, is_no_pre, no_pre, none_let_in, same_value, spelled_of, version_partial}
 use Rattle.npm_ranges.proofs.Spellings.{spelled_is_read}
@@ -129,7 +129,7 @@ record IsTestOf (test : Bool) (v low high : Parts) : Type 0 where
 
 held : (s : Sign) (a version : List ℕ) (high : Parts) → IsPlain a → IsTestOf (meets_comparator (parts_in version) (signed s a)) (parts_in version)
     (parts_in a) high
-    → Meets version (sign_text (Some s) ++ a) ↔ IsWithin (parts_in version) (parts_in a) high
+    → IsInRange version (sign_text (Some s) ++ a) ↔ IsWithin (parts_in version) (parts_in a) high
 held s a version high p t =
     let v = parts_in version in
     let sets = (signed s a ∷ []) ∷ [] in
@@ -165,7 +165,7 @@ end_plain v = elim (cases_Bool (v.0 == 0)) [
   | inr first ↦ rw first refl
 ]
 
-pub caret_holds : (a version : List ℕ) → IsPlain a → Meets version (codes "^" ++ a) ↔ IsWithin (parts_in version) (parts_in a) (caret_end (parts_in a))
+pub caret_holds : (a version : List ℕ) → IsPlain a → IsInRange version (codes "^" ++ a) ↔ IsWithin (parts_in version) (parts_in a) (caret_end (parts_in a))
 caret_holds a version p =
     let v = parts_in version in
     let w = parts_in a in
@@ -173,7 +173,7 @@ caret_holds a version p =
     (interval v w (caret_end w) (agree (up_to_nonzero (w.0 ∷ w.1 ∷ w.2 ∷ [])) (v.0 ∷ v.1 ∷ v.2
     ∷ [])) p.plain (end_plain w) (caret_below v.0 v.1 v.2 w.0 w.1 w.2) (below_caret v.0 v.1 v.2 w.0 w.1 w.2))
 
-pub tilde_holds : (a version : List ℕ) → IsPlain a → Meets version (codes "~" ++ a) ↔ IsWithin (parts_in version) (parts_in a) (tilde_end (parts_in a))
+pub tilde_holds : (a version : List ℕ) → IsPlain a → IsInRange version (codes "~" ++ a) ↔ IsWithin (parts_in version) (parts_in a) (tilde_end (parts_in a))
 tilde_holds a version p =
     let v = parts_in version in
     let w = parts_in a in

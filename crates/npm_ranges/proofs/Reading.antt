@@ -14,9 +14,9 @@ use Rattle.npm_ranges.specs.declared.comparator.Comparator.{Comparator}
 use Rattle.std.specs.declared.alloc.Global.{Global}
 use Rattle.std.specs.declared.vec.Vec.{Vec}
 
--- what was read before, at the front
-abbrev pub with_front : {A : Type 0} → List A → Option (List A) → Option (List A)
-with_front front read = option_map (λ xs. front ++ xs) read
+-- what was read before, at the beginning
+abbrev pub with_prefix : {A : Type 0} → List A → Option (List A) → Option (List A)
+with_prefix prefix read = option_map (λ xs. prefix ++ xs) read
 
 -- ---- faults that `?` hands on
 
@@ -25,10 +25,10 @@ fails_joined first others fault.Bad h = rw h refl
 fails_joined first others fault.TooManyParts h = h
 fails_joined first others fault.NoMemory h = tt
 
-pub fails_behind : {A : Type 0} (front : List A) (read : Option (List A)) (f : RangeFault) → FailsOn read f → FailsOn (with_front front read) f
-fails_behind front read fault.Bad h = rw h refl
-fails_behind front read fault.TooManyParts h = h
-fails_behind front read fault.NoMemory h = tt
+pub fails_behind : {A : Type 0} (prefix : List A) (read : Option (List A)) (f : RangeFault) → FailsOn read f → FailsOn (with_prefix prefix read) f
+fails_behind prefix read fault.Bad h = rw h refl
+fails_behind prefix read fault.TooManyParts h = h
+fails_behind prefix read fault.NoMemory h = tt
 
 pub fails_as : {A : Type 0} (given other : Option A) (f : RangeFault) → given ≡ other → FailsOn other f → FailsOn given f
 fails_as given other f is h = rw is h
@@ -63,32 +63,32 @@ one_word word (next ∷ words) lone = rw lone refl
 
 -- ---- loops
 
-pub front_more : {A : Type 0} (front : List A) (x : A) (others : Option (List A)) → with_front front (joined (Some x) others) ≡ with_front (front ++ x
+pub prefix_more : {A : Type 0} (prefix : List A) (x : A) (others : Option (List A)) → with_prefix prefix (joined (Some x) others) ≡ with_prefix (prefix ++ x
     ∷ []) others
-front_more front x None = refl
-front_more front x (Some xs) = ap (λ ys. Some ys) (sym (append_assoc front (x ∷ []) xs))
+prefix_more prefix x None = refl
+prefix_more prefix x (Some xs) = ap (λ ys. Some ys) (sym (append_assoc prefix (x ∷ []) xs))
 
 seen_more : (done new : List Comparator) (c : Comparator) → new ≡ done ++ c ∷ [] → map seen done ++ seen c ∷ [] ≡ map seen new
 seen_more done new c is = sym (ap (map seen) is ∙ map-append seen done (c ∷ []))
 
 pub comparators_step : (text rest word after behind : List ℕ) (done new : List Comparator) (c : Comparator)
-    → comparators_of (words_of text) ≡ with_front (map seen done) (comparators_of (words_of rest)) → IsFirstWord rest word after →
+    → comparators_of (words_of text) ≡ with_prefix (map seen done) (comparators_of (words_of rest)) → IsFirstWord rest word after →
     IsFirstComparator word after (seen c) behind
-    → new ≡ done ++ c ∷ [] → comparators_of (words_of text) ≡ with_front (map seen new) (comparators_of (words_of behind))
+    → new ≡ done ++ c ∷ [] → comparators_of (words_of text) ≡ with_prefix (map seen new) (comparators_of (words_of behind))
 comparators_step text rest word after behind done new c kept first taken is =
-    kept ∙ ap (λ ws. with_front (map seen done) (comparators_of ws)) first.words ∙ ap (with_front (map seen done)) taken.comparators
-    ∙ front_more (map seen done) (seen c) (comparators_of (words_of behind)) ∙ ap (λ front. with_front front (comparators_of (words_of behind)))
+    kept ∙ ap (λ ws. with_prefix (map seen done) (comparators_of ws)) first.words ∙ ap (with_prefix (map seen done)) taken.comparators
+    ∙ prefix_more (map seen done) (seen c) (comparators_of (words_of behind)) ∙ ap (λ prefix. with_prefix prefix (comparators_of (words_of behind)))
     (seen_more done new c is)
 
 -- ---- sets
 
-front_none : {A : Type 0} (read : Option (List A)) → read ≡ with_front [] read
-front_none None = refl
-front_none (Some xs) = refl
+prefix_none : {A : Type 0} (read : Option (List A)) → read ≡ with_prefix [] read
+prefix_none None = refl
+prefix_none (Some xs) = refl
 
-pub sets_start : (text : List ℕ) (done : List (Vec Comparator Global)) → done ≡ [] → written text ≡ with_front (sets_seen done) (each_of set_of (sets_of text))
+pub sets_start : (text : List ℕ) (done : List (Vec Comparator Global)) → done ≡ [] → written text ≡ with_prefix (sets_seen done) (each_of set_of (sets_of text))
 unfolding written
-sets_start text done is = rw is (front_none (each_of set_of (sets_of text)))
+sets_start text done is = rw is (prefix_none (each_of set_of (sets_of text)))
 
 sets_seen_more : (done new : List (Vec Comparator Global)) (s : Vec Comparator Global) → new ≡ done ++ s ∷ [] → sets_seen done ++ set_seen s
     ∷ [] ≡ sets_seen new
@@ -96,30 +96,31 @@ sets_seen_more done new s is = sym (ap (map set_seen) is ∙ map-append set_seen
 
 -- what is left of a text, with its first set
 left : (text set : List ℕ) (rest : Option (Bor (List ℕ))) (t : Bor (List ℕ)) (others : List (List ℕ)) (done : List (Vec Comparator Global))
-    → written text ≡ with_front (sets_seen done) (each_of set_of (sets_behind rest)) → rest ≡ Some t → sets_of t.now ≡ set ∷ others
-    → written text ≡ with_front (sets_seen done) (joined (set_of set) (each_of set_of others))
-left text set rest t others done kept is first = kept ∙ ap (λ o. with_front (sets_seen done) (each_of set_of (sets_behind o))) is
-    ∙ ap (λ ps. with_front (sets_seen done) (each_of set_of ps)) first
+    → written text ≡ with_prefix (sets_seen done) (each_of set_of (sets_behind rest)) → rest ≡ Some t → sets_of t.now ≡ set ∷ others
+    → written text ≡ with_prefix (sets_seen done) (joined (set_of set) (each_of set_of others))
+left text set rest t others done kept is first = kept ∙ ap (λ o. with_prefix (sets_seen done) (each_of set_of (sets_behind o))) is
+    ∙ ap (λ ps. with_prefix (sets_seen done) (each_of set_of ps)) first
 
 pub sets_step : (text set : List ℕ) (rest : Option (Bor (List ℕ))) (t : Bor (List ℕ)) (others : List (List ℕ)) (done new : List (Vec Comparator Global))
     (s : Vec Comparator Global)
-    → written text ≡ with_front (sets_seen done) (each_of set_of (sets_behind rest)) → rest ≡ Some t → sets_of t.now ≡ set ∷ others →
+    → written text ≡ with_prefix (sets_seen done) (each_of set_of (sets_behind rest)) → rest ≡ Some t → sets_of t.now ≡ set ∷ others →
     set_of set ≡ Some (set_seen s)
-    → new ≡ done ++ s ∷ [] → written text ≡ with_front (sets_seen new) (each_of set_of others)
+    → new ≡ done ++ s ∷ [] → written text ≡ with_prefix (sets_seen new) (each_of set_of others)
 sets_step text set rest t others done new s kept at first read is =
-    left text set rest t others done kept at first ∙ ap (λ o. with_front (sets_seen done) (joined o (each_of set_of others))) read
-    ∙ front_more (sets_seen done) (set_seen s) (each_of set_of others) ∙ ap (λ front. with_front front (each_of set_of others)) (sets_seen_more done new s is)
+    left text set rest t others done kept at first ∙ ap (λ o. with_prefix (sets_seen done) (joined o (each_of set_of others))) read
+    ∙ prefix_more (sets_seen done) (set_seen s) (each_of set_of others)
+    ∙ ap (λ prefix. with_prefix prefix (each_of set_of others)) (sets_seen_more done new s is)
 
 pub sets_fail : (text set : List ℕ) (rest : Option (Bor (List ℕ))) (t : Bor (List ℕ)) (others : List (List ℕ)) (done : List (Vec Comparator Global))
     (f : RangeFault)
-    → written text ≡ with_front (sets_seen done) (each_of set_of (sets_behind rest)) → rest ≡ Some t → sets_of t.now ≡ set ∷ others →
+    → written text ≡ with_prefix (sets_seen done) (each_of set_of (sets_behind rest)) → rest ≡ Some t → sets_of t.now ≡ set ∷ others →
     FailsOn (set_of set) f → FailsOn (written text) f
 sets_fail text set rest t others done f kept at first fails =
-    fails_as (written text) (with_front (sets_seen done) (joined (set_of set) (each_of set_of others))) f (left text set rest t others done kept at first)
+    fails_as (written text) (with_prefix (sets_seen done) (joined (set_of set) (each_of set_of others))) f (left text set rest t others done kept at first)
     (fails_behind (sets_seen done) (joined (set_of set) (each_of set_of others)) f (fails_joined (set_of set) (each_of set_of others) f fails))
 
 pub sets_end : (text : List ℕ) (rest : Option (Bor (List ℕ))) (done : List (Vec Comparator Global)) →
-    written text ≡ with_front (sets_seen done) (each_of set_of (sets_behind rest)) → rest ≡ None
+    written text ≡ with_prefix (sets_seen done) (each_of set_of (sets_behind rest)) → rest ≡ None
     → written text ≡ Some (sets_seen done)
-sets_end text rest done kept none = kept ∙ ap (λ o. with_front (sets_seen done) (each_of set_of (sets_behind o))) none
+sets_end text rest done kept none = kept ∙ ap (λ o. with_prefix (sets_seen done) (each_of set_of (sets_behind o))) none
     ∙ ap (λ ys. Some ys) (append-nil (sets_seen done))

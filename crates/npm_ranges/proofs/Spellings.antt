@@ -13,7 +13,7 @@ use Rattle.npm_ranges.specs.declared.comparator.Sign.{Sign}
 use Rattle.npm_ranges.specs.declared.comparator.Sign.TheVariants as sign
 use Rattle.npm_ranges.specs.Grammar.{Spelled, Written, by_sign, comparator_of, comparators_of, each_of, hyphen_ends, hyphen_or, is_blank, joined, lone_sign}
 use Rattle.npm_ranges.specs.Grammar.{number_of, partial_of, parts_partial, set_from, set_of, sign_of, with_sign, words_of, written}
-use Rattle.npm_ranges.specs.Laws.{SpellAll, SpelledIsRead, Spelling, Spells, sign_text, spelling_text, spellings_text}
+use Rattle.npm_ranges.specs.Laws.{SpellAll, SpelledIsRead, Spelling, IsSpellingOf, sign_text, spelling_text, spellings_text}
 use Rattle.npm_ranges.proofs.Ascii.{is_partial_byte, partial_bytes}
 use Rattle.npm_ranges.proofs.Holding.{no_bar, no_blank, one_set, split_one, split_two}
 use Rattle.npm_ranges.proofs.Reading.{lone_next, no_partial, one_word}
@@ -127,7 +127,7 @@ sign_no_blank sign.GreaterOrEqual = (refl, omega arith, refl)
 sign_no_blank sign.Tilde = (refl, omega arith, refl)
 sign_no_blank sign.Caret = (refl, omega arith, refl)
 
--- ---- the comparator in front
+-- ---- the comparator at the beginning
 
 given : (c : Written) (s : Sign) (partial : List ℕ) → c.sign ≡ s → partial_of partial ≡ Some c.partial → with_sign s (partial_of partial) ≡ Some c
 given c s partial same is = ap (with_sign s) is ∙ (λ i. Some (record { sign = sym same i; partial = c.partial }))
@@ -255,7 +255,7 @@ sign_no_bar : (o : Option Sign) → list_all no_bar (sign_text o) ≡ true
 sign_no_bar None = refl
 sign_no_bar (Some s) = (sign_no_blank s).2
 
-spelling_no_bar : (s : Spelling) (c : Written) → Spells s c → list_all no_bar (spelling_text s) ≡ true
+spelling_no_bar : (s : Spelling) (c : Written) → IsSpellingOf s c → list_all no_bar (spelling_text s) ≡ true
 spelling_no_bar s c h =
     let blanks = all_weaker is_blank no_bar blank_no_bar s.blanks h.blanks in
     let behind = all_weaker is_blank no_bar blank_no_bar s.behind h.behind in
@@ -274,8 +274,8 @@ as_many (s ∷ ss) (c ∷ cs) h some = omega arith
 
 pub spelled_is_read : SpelledIsRead
 unfolding written
-spelled_is_read front ss cs blank h some =
-    let text = front ++ spellings_text ss in
-    let bars = all_both no_bar front (spellings_text ss) (all_weaker is_blank no_bar blank_no_bar front blank) (spellings_no_bar ss cs h) in
-    let set = ap set_from (words_past front (spellings_text ss) blank) ∙ set_is (words_of (spellings_text ss)) cs (all_read ss cs h) (as_many ss cs h some) in
+spelled_is_read prefix ss cs blank h some =
+    let text = prefix ++ spellings_text ss in
+    let bars = all_both no_bar prefix (spellings_text ss) (all_weaker is_blank no_bar blank_no_bar prefix blank) (spellings_no_bar ss cs h) in
+    let set = ap set_from (words_past prefix (spellings_text ss) blank) ∙ set_is (words_of (spellings_text ss)) cs (all_read ss cs h) (as_many ss cs h some) in
     ap (each_of set_of) (one_set text bars) ∙ ap (λ o. joined o (Some [])) set

@@ -1,4 +1,4 @@
--- How words and sets are taken off the front of a text.
+-- How words and sets are taken off the beginning of a text.
 use Rattle.std.proofs.Common.{◌≡◌, ℕ, zero, suc, ◌+◌, ◌-◌, ◌≤◌, ◌<◌, List, [], ◌∷◌, length, take, drop, get_or, Some, None, Bool, true, false, not, refl, sym}
 use Rattle.std.proofs.Common.{ap, ◌∙◌, subst, add-zero, inl, inr, arith}
 use Rattle.std.specs.Cmp.Lexicographic.{pointwise}
@@ -18,7 +18,7 @@ pub words_nil : words_of [] ≡ []
 unfolding words_of
 words_nil = refl
 
--- a blank at the front
+-- a blank at the beginning
 pub words_blank : (b : ℕ) (rest : List ℕ) → is_blank b ≡ true → words_of (b ∷ rest) ≡ words_of rest
 unfolding words_of
 words_blank b rest blank = rw blank refl

@@ -75,7 +75,7 @@ abbrev pub partial_from : Result Parts Error → Option Spelled → Option Spell
 partial_from (Ok p) other = Some (record { numbers = p.0 ∷ p.1 ∷ p.2 ∷ []; pre = p.3 })
 partial_from (Err e) other = other
 
--- without the `v` at the front
+-- without the `v` at the beginning
 abbrev pub bare : List ℕ → List ℕ
 bare [] = []
 bare (b ∷ rest) = if b == 118 then rest else b ∷ rest
@@ -89,7 +89,7 @@ abbrev pub or_equal : Sign → Sign → List ℕ → Option Sign × List ℕ
 or_equal one two [] = (Some one, [])
 or_equal one two (b ∷ rest) = if b == 61 then (Some two, rest) else (Some one, b ∷ rest)
 
--- the sign at the front of a word, and what is left of it
+-- the sign at the beginning of a word, and what is left of it
 unfoldable pub sign_of : List ℕ → Option Sign × List ℕ
 sign_of [] = (None, [])
 sign_of (b ∷ rest) =

@@ -65,7 +65,7 @@ abbrev pub AreBlank : List ℕ → Type 0
 AreBlank text = IsTrue (list_all is_blank text)
 
 -- the comparator that is spelled so; no sign is as `=`
-pub record Spells (s : Spelling) (c : Written) : Type 0 where
+pub record IsSpellingOf (s : Spelling) (c : Written) : Type 0 where
   pub sign : c.sign ≡ unwrap_or s.sign sign.Equal
   pub blanks : AreBlank s.blanks
   pub partial : partial_of s.partial ≡ Some c.partial
@@ -83,9 +83,9 @@ abbrev pub SpellAll : List Spelling → List Written → Type 0
 SpellAll [] [] = ⊤
 SpellAll [] (c ∷ cs) = ⊥
 SpellAll (s ∷ ss) [] = ⊥
-SpellAll (s ∷ ss) (c ∷ cs) = Spells s c × (0 < length ss → 0 < length s.behind) × SpellAll ss cs
+SpellAll (s ∷ ss) (c ∷ cs) = IsSpellingOf s c × (0 < length ss → 0 < length s.behind) × SpellAll ss cs
 
 -- a text of comparators that are spelled so, behind blanks or none, is the range of one set that has them
 abbrev pub SpelledIsRead : Type 0
-SpelledIsRead = (front : List ℕ) (ss : List Spelling) (cs : List Written) → AreBlank front → SpellAll ss cs → 0 < length ss →
-    written (front ++ spellings_text ss) ≡ Some (cs ∷ [])
+SpelledIsRead = (prefix : List ℕ) (ss : List Spelling) (cs : List Written) → AreBlank prefix → SpellAll ss cs → 0 < length ss →
+    written (prefix ++ spellings_text ss) ≡ Some (cs ∷ [])

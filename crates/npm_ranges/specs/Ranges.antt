@@ -41,8 +41,8 @@ abbrev pub order : Parts → Spelled → Ordering
 order v p = precedence v (filled p)
 
 -- how its first numbers compare with those that are written
-abbrev pub front_order : Parts → Spelled → Ordering
-front_order v p = slice_cmp nat_cmp (take (length p.numbers) (numbers_of v)) p.numbers
+abbrev pub prefix_order : Parts → Spelled → Ordering
+prefix_order v p = slice_cmp nat_cmp (take (length p.numbers) (numbers_of v)) p.numbers
 
 -- the first numbers are these
 abbrev pub agree : List ℕ → List ℕ → Bool
@@ -68,9 +68,9 @@ meets_full sign.Caret v p = is_ge (order v p) && agree (up_to_nonzero p.numbers)
 -- a partial of fewer
 abbrev pub meets_open : Sign → Parts → Spelled → Bool
 meets_open sign.Equal v p = is_ge (order v p) && agree p.numbers (numbers_of v)
-meets_open sign.Less v p = is_lt (front_order v p)
-meets_open sign.LessOrEqual v p = is_le (front_order v p)
-meets_open sign.Greater v p = is_gt (front_order v p)
+meets_open sign.Less v p = is_lt (prefix_order v p)
+meets_open sign.LessOrEqual v p = is_le (prefix_order v p)
+meets_open sign.Greater v p = is_gt (prefix_order v p)
 meets_open sign.GreaterOrEqual v p = is_ge (order v p)
 meets_open sign.Tilde v p = is_ge (order v p) && agree p.numbers (numbers_of v)
 meets_open sign.Caret v p = is_ge (order v p) && agree (up_to_nonzero p.numbers) (numbers_of v)
@@ -89,5 +89,5 @@ abbrev pub meets_set : Parts → List Written → Bool
 meets_set v set = list_all (meets_comparator v) set && (length v.3 == 0 || list_any (lets_pre_in v) set)
 
 -- the grammar reads the range, and the version meets one of its sets
-abbrev pub Meets : List ℕ → List ℕ → Type 0
-Meets version range = (sets : List (List Written)) × (written range ≡ Some sets) × IsTrue (list_any (meets_set (parts_in version)) sets)
+abbrev pub IsInRange : List ℕ → List ℕ → Type 0
+IsInRange version range = (sets : List (List Written)) × (written range ≡ Some sets) × IsTrue (list_any (meets_set (parts_in version)) sets)

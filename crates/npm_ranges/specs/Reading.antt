@@ -34,10 +34,10 @@ FailsOn given range.Bad = given ≡ None
 FailsOn given range.TooManyParts = ⊥
 FailsOn given range.NoMemory = ⊤
 
-abbrev pub Gives : {A B : Type 0} → (A → B) → Option B → Result A RangeFault → Type 0
-Gives view given result = MatchResult result (λ x. given ≡ Some (view x)) (FailsOn given)
+abbrev pub RangeOutcome : {A B : Type 0} → (A → B) → Option B → Result A RangeFault → Type 0
+RangeOutcome view given result = MatchResult result (λ x. given ≡ Some (view x)) (FailsOn given)
 
--- the comparator at the front of the words, and what is left of the text
+-- the comparator at the beginning of the words, and what is left of the text
 pub record IsFirstComparator (word after : List ℕ) (comparator : Written) (rest : List ℕ) : Type 0 where
   pub comparators : comparators_of (word ∷ words_of after) ≡ joined (Some comparator) (comparators_of (words_of rest))
   pub shorter : length rest ≤ length after

@@ -51,8 +51,8 @@ fn filled_order(version: &semver::Version, partial: &Partial) -> Ordering
 }
 
 /// How the version's first numbers compare with those that are written.
-fn front_order(version: &semver::Version, partial: &Partial) -> Ordering
-    ensures { result ≡ spec.front_order (parts_of version.now) (spelled partial.now) }
+fn prefix_order(version: &semver::Version, partial: &Partial) -> Ordering
+    ensures { result ≡ spec.prefix_order (parts_of version.now) (spelled partial.now) }
 {
     match partial {
         Partial::Any => Ordering::Equal,
@@ -67,7 +67,7 @@ fn front_order(version: &semver::Version, partial: &Partial) -> Ordering
 }
 
 /// Whether the version has the numbers that are written.
-fn front_agrees(version: &semver::Version, partial: &Partial) -> bool
+fn prefix_agrees(version: &semver::Version, partial: &Partial) -> bool
     ensures { result ≡ agree (spelled partial.now).numbers (numbers_of (parts_of version.now)) }
 {
     match partial {
@@ -88,7 +88,7 @@ fn minor_agrees(version: &semver::Version, partial: &Partial) -> bool
 {
     match partial {
         Partial::Full(full) => version.major == full.major && version.minor == full.minor,
-        _ => front_agrees(version, partial),
+        _ => prefix_agrees(version, partial),
     }
 }
 
@@ -131,11 +131,11 @@ fn meets_open(sign: Sign, version: &semver::Version, partial: &Partial) -> bool
 {
     match sign {
         Sign::Equal | Sign::Tilde => {
-            filled_order(version, partial).is_ge() && front_agrees(version, partial)
+            filled_order(version, partial).is_ge() && prefix_agrees(version, partial)
         }
-        Sign::Less => front_order(version, partial).is_lt(),
-        Sign::LessOrEqual => front_order(version, partial).is_le(),
-        Sign::Greater => front_order(version, partial).is_gt(),
+        Sign::Less => prefix_order(version, partial).is_lt(),
+        Sign::LessOrEqual => prefix_order(version, partial).is_le(),
+        Sign::Greater => prefix_order(version, partial).is_gt(),
         Sign::GreaterOrEqual => filled_order(version, partial).is_ge(),
         Sign::Caret => filled_order(version, partial).is_ge() && caret_agrees(version, partial),
     }

@@ -1,7 +1,7 @@
 ghost use Rattle.std.specs.Prelude.{◌≡◌, ◌↔◌, List, ℕ, IsTrue, Some, nat_eq};
 ghost use Rattle.std.specs.Cmp;
 ghost use Rattle.std.specs.Cmp.Lexicographic.{pointwise, nat_list_eq_equiv};
-ghost use Rattle.npm_ranges.specs.Ranges.{IsRange, Meets};
+ghost use Rattle.npm_ranges.specs.Ranges.{IsRange, IsInRange};
 ghost use Rattle.npm_ranges.specs.Reading.{ReadsRange};
 
 use crate::comparator::{Comparator, meets_any};
@@ -66,7 +66,7 @@ impl Range {
 
     /// Whether the version meets the range. It takes no memory, and compares a few numbers for each comparator.
     pub fn holds(&self, version: &Version) -> bool
-        ensures { IsTrue result ↔ Meets version.now self.now }
+        ensures { IsTrue result ↔ IsInRange version.now self.now }
     {
         meets_any(version.parts(), self.sets.as_slice())
     }

@@ -3,7 +3,7 @@ ghost use Rattle.std.specs.Prelude.{◌≡◌, ◌≤◌, ◌↔◌, ◌∷◌, 
 ghost use Rattle.npm_ranges.specs.Ranges.{comparator_count};
 ghost use Rattle.npm_ranges.specs.Grammar as grammar;
 ghost use Rattle.npm_ranges.specs.Grammar.{comparators_of, with_sign, words_of, written};
-ghost use Rattle.npm_ranges.specs.Reading.{FailsOn, Gives, IsFirstComparator};
+ghost use Rattle.npm_ranges.specs.Reading.{FailsOn, RangeOutcome, IsFirstComparator};
 ghost use Rattle.npm_ranges.specs.Views.{seen, sets_seen};
 
 use crate::comparator::{Comparator, Partial, Sign};
@@ -15,7 +15,7 @@ use std::alloc::Global;
 /// The most comparators of a range.
 const COMPARATOR_LIMIT: usize = 32;
 
-/// The sign at the front of a word, and what is left of it.
+/// The sign at the beginning of a word, and what is left of it.
 #[tactic(auto, unfolding(crate::specs::Grammar::sign_of))]
 fn sign_of(word: &[u8]) -> (Option<Sign>, &[u8])
     ensures { (result.0, result.1.now) ≡ grammar.sign_of word.now }
@@ -41,7 +41,7 @@ fn lone_sign(word: &[u8]) -> Option<Sign>
 }
 
 fn comparator(alloc: Global, sign: Sign, word: &[u8]) -> Result<Comparator, RangeFault>
-    ensures { Gives seen (with_sign sign (grammar.partial_of word.now)) result }
+    ensures { RangeOutcome seen (with_sign sign (grammar.partial_of word.now)) result }
 {
     let partial = partial_of(alloc, word)?;
     match partial {
@@ -52,7 +52,7 @@ fn comparator(alloc: Global, sign: Sign, word: &[u8]) -> Result<Comparator, Rang
 
 /// The comparator of one word.
 fn word_comparator(alloc: Global, word: &[u8]) -> Result<Comparator, RangeFault>
-    ensures { Gives seen (grammar.comparator_of word.now) result }
+    ensures { RangeOutcome seen (grammar.comparator_of word.now) result }
 {
     let (sign, partial) = sign_of(word);
     comparator(alloc, sign.unwrap_or(Sign::Equal), partial)
@@ -82,7 +82,7 @@ fn first_comparator<'a>(
 }
 
 fn comparators_in(alloc: Global, text: &[u8]) -> Result<Vec<Comparator>, RangeFault>
-    ensures { Gives (λ v. map seen v.items) (comparators_of (words_of text.now)) result }
+    ensures { RangeOutcome (λ v. map seen v.items) (comparators_of (words_of text.now)) result }
 {
     let mut comparators = Vec::new(alloc);
     let mut rest = text;
@@ -95,7 +95,7 @@ fn comparators_in(alloc: Global, text: &[u8]) -> Result<Vec<Comparator>, RangeFa
 }
 
 fn hyphen_range(alloc: Global, first: &[u8], last: &[u8]) -> Result<Vec<Comparator>, RangeFault>
-    ensures { Gives (λ v. map seen v.items) (grammar.hyphen_range first.now last.now) result }
+    ensures { RangeOutcome (λ v. map seen v.items) (grammar.hyphen_range first.now last.now) result }
 {
     let low = comparator(alloc, Sign::GreaterOrEqual, first)?;
     let high = comparator(alloc, Sign::LessOrEqual, last)?;
@@ -107,7 +107,7 @@ fn hyphen_range(alloc: Global, first: &[u8], last: &[u8]) -> Result<Vec<Comparat
 
 /// The empty set, which any version without a pre-release meets.
 fn empty_set(alloc: Global) -> Result<Vec<Comparator>, RangeFault>
-    ensures { Gives (λ v. map seen v.items) (Some (grammar.any_version ∷ [])) result }
+    ensures { RangeOutcome (λ v. map seen v.items) (Some (grammar.any_version ∷ [])) result }
 {
     let mut set = Vec::new(alloc);
     set.push(Comparator {
@@ -118,7 +118,7 @@ fn empty_set(alloc: Global) -> Result<Vec<Comparator>, RangeFault>
 }
 
 fn set_in(alloc: Global, text: &[u8]) -> Result<Vec<Comparator>, RangeFault>
-    ensures { Gives (λ v. map seen v.items) (grammar.set_of text.now) result }
+    ensures { RangeOutcome (λ v. map seen v.items) (grammar.set_of text.now) result }
 {
     if next_word(text).is_none() {
         return empty_set(alloc);
@@ -131,7 +131,7 @@ fn set_in(alloc: Global, text: &[u8]) -> Result<Vec<Comparator>, RangeFault>
 
 /// The sets of a range.
 pub(crate) fn sets_in(alloc: Global, text: &[u8]) -> Result<Vec<Vec<Comparator>>, RangeFault>
-    ensures { Gives (λ v. sets_seen v.items) (written text.now) result }
+    ensures { RangeOutcome (λ v. sets_seen v.items) (written text.now) result }
 {
     let mut sets = Vec::new(alloc);
     let mut rest = Some(text);

@@ -57,8 +57,8 @@ tilde_stays (y ∷ rest) a b =
     let one : (y == 49) ≡ false = ne_eqb y 49 (λ e. b rest (ap (λ z. z ∷ rest) e)) in
     rw (one, zero) refl
 
-plain_front : (rest : List ℕ) → position_or_len (λ b. b == 126) rest < length rest → Plain (before_first (λ b. b == 126) rest)
-plain_front rest below k d inside =
+plain_prefix : (rest : List ℕ) → position_or_len (λ b. b == 126) rest < length rest → Plain (before_first (λ b. b == 126) rest)
+plain_prefix rest below k d inside =
     let n = position_or_len (λ (b : ℕ). b == 126) rest in
     let short : k < n = omega (arith, inside, length-take n rest) in
     rw (get_or-take n rest k d short) (fails_before_first (λ b. b == 126) rest k d short)
@@ -71,7 +71,7 @@ plain_next all rest done below h =
     let at : get_or rest (position_or_len p rest) 0 ≡ 126 = grind (arith, nat_tests, passes_at_first p rest 0 below) in
     let split : rest ≡ before_first p rest ++ (126 ∷ after_first p rest) =
     split_at_first p rest 0 below ∙ ap (λ x. before_first p rest ++ (x ∷ after_first p rest)) at in
-    let plain : Plain (before_first p rest) = plain_front rest below in
+    let plain : Plain (before_first p rest) = plain_prefix rest below in
     h ∙ ap (λ xs. done ++ unescape xs) split ∙ ap (λ xs. done ++ xs) (plain_at (before_first p rest) (after_first p rest) plain)
     ∙ sym (append_assoc done (before_first p rest) (unescape (126 ∷ after_first p rest)))
 
@@ -81,10 +81,10 @@ pub piece_step : (all rest done plain after mid new next : List ℕ) (letter : �
     → plain ≡ before_first (λ b. b == 126) rest → after ≡ after_first (λ b. b == 126) rest → position_or_len (λ b. b == 126) rest < length rest
     → mid ≡ done ++ plain → new ≡ mid ++ letter ∷ [] → unescape (126 ∷ after) ≡ letter ∷ unescape next
     → unescape all ≡ new ++ unescape next
-piece_step all rest done plain after mid new next letter h front back below middle more past =
+piece_step all rest done plain after mid new next letter h prefix back below middle more past =
     let e1 = plain_next all rest done below h in
     let e2 : (mid ++ letter ∷ []) ++ unescape next ≡ mid ++ (letter ∷ unescape next) = append_assoc mid (letter ∷ []) (unescape next) in
-    e1 ∙ ap₂ (λ x y. x ++ y) (ap (λ x. done ++ x) (sym front) ∙ sym middle) (ap (λ x. unescape (126 ∷ x)) (sym back) ∙ past) ∙ sym e2
+    e1 ∙ ap₂ (λ x y. x ++ y) (ap (λ x. done ++ x) (sym prefix) ∙ sym middle) (ap (λ x. unescape (126 ∷ x)) (sym back) ∙ past) ∙ sym e2
     ∙ ap (λ x. x ++ unescape next) (sym more)
 
 pub part_step : (all rest part after : List ℕ) (done : List (List ℕ)) (token : List ℕ) (new : List (List ℕ))
@@ -92,9 +92,9 @@ pub part_step : (all rest part after : List ℕ) (done : List (List ℕ)) (token
     → part ≡ before_first (λ b. b == 47) rest → after ≡ after_first (λ b. b == 47) rest → position_or_len (λ b. b == 47) rest < length rest
     → token ≡ unescape part → new ≡ done ++ token ∷ []
     → map unescape (slice_split (λ b. b == 47) all) ≡ new ++ map unescape (slice_split (λ b. b == 47) after)
-part_step all rest part after done token new h front back below is more =
+part_step all rest part after done token new h prefix back below is more =
     part_next all rest done below h
-    ∙ ap₂ (λ x y. (done ++ x ∷ []) ++ map unescape (slice_split (λ b. b == 47) y)) (ap unescape (sym front) ∙ sym is) (sym back)
+    ∙ ap₂ (λ x y. (done ++ x ∷ []) ++ map unescape (slice_split (λ b. b == 47) y)) (ap unescape (sym prefix) ∙ sym is) (sym back)
     ∙ ap (λ x. x ++ map unescape (slice_split (λ b. b == 47) after)) (sym more)
 
 pub part_end : (all rest : List ℕ) (done : List (List ℕ)) (token : List ℕ) (new : List (List ℕ))

@@ -21,12 +21,12 @@ AllHold [] = ⊤
 AllHold (line ∷ lines) = line.holds × AllHold lines
 
 -- what reading by a table answers, where want of memory is free
-abbrev pub Answers : {A Fault : Type 0} → Fault → Table Fault → (A → Type 0) → Result A Fault → Type 0
-Answers memory lines Is result = MatchResult result (λ value. AllHold lines × Is value) (λ fault. (fault ≡ memory) ⊎ IsFirst lines fault)
+abbrev pub AnswerBy : {A Fault : Type 0} → Fault → Table Fault → (A → Type 0) → Result A Fault → Type 0
+AnswerBy memory lines Is result = MatchResult result (λ value. AllHold lines × Is value) (λ fault. (fault ≡ memory) ⊎ IsFirst lines fault)
 
 -- the fault of the first line that fails, or want of memory
-abbrev pub Faults : {Fault : Type 0} → Fault → Table Fault → Fault → Type 0
-Faults memory lines fault = (fault ≡ memory) ⊎ IsFirst lines fault
+abbrev pub IsFaultBy : {Fault : Type 0} → Fault → Table Fault → Fault → Type 0
+IsFaultBy memory lines fault = (fault ≡ memory) ⊎ IsFirst lines fault
 
 -- lines on a value that is there
 abbrev pub on : {A Fault : Type 0} → Option A → (A → Table Fault) → Table Fault
@@ -39,7 +39,7 @@ each lines [] = []
 each lines (value ∷ values) = lines value ++ each lines values
 
 -- what a loop over values keeps: all of them, those that are left, and what was read of the others
-pub record Passes {A B Fault : Type 0} (lines : A → Table Fault) (Is : A → B → Type 0) (all rest : List A) (done : List B) : Type 0 where
+pub record IsPass {A B Fault : Type 0} (lines : A → Table Fault) (Is : A → B → Type 0) (all rest : List A) (done : List B) : Type 0 where
   pub faults : (fault : Fault) → IsFirst (each lines rest) fault → IsFirst (each lines all) fault
   pub holds : AllHold (each lines rest) → AllHold (each lines all)
   pub values : (more : List B) → AllZip Is rest more → AllZip Is all (done ++ more)

@@ -205,23 +205,23 @@ fn is_answered(alloc: Global, text: &str, wanted: &str) -> Result<bool, Fail> {
     Ok(answer(alloc, text)?.as_str() == wanted)
 }
 
-fn is_row(alloc: Global, front: &str, row: &str, back: &str) -> Result<bool, Fail> {
+fn is_row(alloc: Global, prefix: &str, row: &str, back: &str) -> Result<bool, Fail> {
     let Some((wanted, middle)) = row.split_once('|') else {
         return Ok(false);
     };
-    let text = joined(alloc, front, middle, back)?;
+    let text = joined(alloc, prefix, middle, back)?;
     is_answered(alloc, text.as_str(), wanted)
 }
 
 /// The first row of a table that is not answered as it says, or the empty text.
 fn first_wrong<'t>(
     alloc: Global,
-    front: &str,
+    prefix: &str,
     table: &'t str,
     back: &str,
 ) -> Result<&'t str, Fail> {
     for row in table.lines() {
-        if !is_row(alloc, front, row, back)? {
+        if !is_row(alloc, prefix, row, back)? {
             return Ok(row);
         }
     }
@@ -238,11 +238,11 @@ const MANY_RESETS: &str = r#"TooMany reset|257||
 WrongKind reset|256||
 BadPointer A|256|"|""#;
 
-fn is_repeated_row(alloc: Global, front: &str, row: &str, back: &str) -> Result<bool, Fail> {
+fn is_repeated_row(alloc: Global, prefix: &str, row: &str, back: &str) -> Result<bool, Fail> {
     let Some((wanted, parts)) = row.split_once('|') else {
         return Ok(false);
     };
-    match repeated_of(alloc, front, parts, back)? {
+    match repeated_of(alloc, prefix, parts, back)? {
         Some(text) => is_answered(alloc, text.as_str(), wanted),
         None => Ok(false),
     }
@@ -250,12 +250,12 @@ fn is_repeated_row(alloc: Global, front: &str, row: &str, back: &str) -> Result<
 
 fn first_wrong_repeated<'t>(
     alloc: Global,
-    front: &str,
+    prefix: &str,
     table: &'t str,
     back: &str,
 ) -> Result<&'t str, Fail> {
     for row in table.lines() {
-        if !is_repeated_row(alloc, front, row, back)? {
+        if !is_repeated_row(alloc, prefix, row, back)? {
             return Ok(row);
         }
     }

@@ -268,14 +268,14 @@ fn is_answered(
 fn is_row(
     alloc: Global,
     platform: &Platform,
-    front: &str,
+    prefix: &str,
     row: &str,
     back: &str,
 ) -> Result<bool, Fail> {
     let Some((answer, middle)) = row.split_once('|') else {
         return Ok(false);
     };
-    let text = joined(alloc, front, middle, back)?;
+    let text = joined(alloc, prefix, middle, back)?;
     is_answered(alloc, platform, text.as_bytes(), answer)
 }
 
@@ -306,14 +306,14 @@ fn is_limited(alloc: Global, platform: &Platform) -> Result<bool, Fail> {
 fn first_wrong(
     alloc: Global,
     platform: &Platform,
-    front: &str,
+    prefix: &str,
     table: &str,
     back: &str,
 ) -> Result<usize, Fail> {
     let mut number = 0usize;
     for row in table.lines() {
         number = number.saturating_add(1);
-        if !is_row(alloc, platform, front, row, back)? {
+        if !is_row(alloc, platform, prefix, row, back)? {
             return Ok(number);
         }
     }
@@ -323,20 +323,20 @@ fn first_wrong(
 /// The same on Linux.
 fn first_wrong_on_linux(
     alloc: Global,
-    front: &str,
+    prefix: &str,
     table: &str,
     back: &str,
 ) -> Result<usize, Fail> {
     let platform = linux(alloc)?;
-    let wrong = first_wrong(alloc, &platform, front, table, back);
+    let wrong = first_wrong(alloc, &platform, prefix, table, back);
     drop(platform);
     wrong
 }
 
 /// The same behind the three keys that must be there.
 fn first_wrong_body(alloc: Global, opening: &str, table: &str, back: &str) -> Result<usize, Fail> {
-    let front = joined(alloc, HEAD, opening, "")?;
-    first_wrong_on_linux(alloc, front.as_str(), table, back)
+    let prefix = joined(alloc, HEAD, opening, "")?;
+    first_wrong_on_linux(alloc, prefix.as_str(), table, back)
 }
 
 fn is_limited_on_linux(alloc: Global) -> Result<bool, Fail> {

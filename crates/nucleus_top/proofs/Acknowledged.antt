@@ -16,12 +16,12 @@ pub deployed_stay : {D : Type 0} (may_leave : D → Image → Type 0) (moment : 
     DeployedStay may_leave moment left_since faults
 deployed_stay may_leave moment left_since faults old new old_list new_list printed result d start library what bytes h before after plan is =
     λ first one e stands later follow image left.
-    acknowledged_last may_leave new h.call.0.prints.told h.lasts first one e stands later follow image left before after plan is
+    acknowledged_last may_leave new h.call.0.prints.printed_records h.lasts first one e stands later follow image left before after plan is
 
 pub served_stay : {D : Type 0} (disk : a_disk.Ghosts D) → ServedStay disk
 served_stay disk content old new result d turns s before after plan is =
     λ first one e stands later follow image left.
-    acknowledged_last disk.may_leave new.disk s.told s.lasts first one e stands later follow image left before after plan is
+    acknowledged_last disk.may_leave new.disk s.printed_records s.lasts first one e stands later follow image left before after plan is
 
 -- ---- a disk that was just made
 

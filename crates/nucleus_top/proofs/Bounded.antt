@@ -14,9 +14,9 @@ use Rattle.session.proofs.Accepted.{accepted_at}
 use Rattle.session_serving.specs.Parts.{IsStarted, Outside}
 use Rattle.session_serving.specs.Rounds.{Handled, round_of_last}
 use Rattle.session_serving.proofs.Rounding.{started_more}
-use Rattle.nucleus_top.specs.Bounded.{AcceptsWithin, AreWithin, IsWithin, ServesWithin, most_behind}
+use Rattle.nucleus_top.specs.Bounded.{AcceptsWithin, AreAcceptedWithin, IsAcceptedWithin, ServesWithin, most_behind}
 use Rattle.nucleus_top.specs.Drives.{StartsFrom}
-use Rattle.nucleus_top.specs.Serving.{Parts, on_disk, slots_ghosts}
+use Rattle.nucleus_top.specs.Serving.{IsHaltedOrServed, on_disk, slots_ghosts}
 
 bounded : (can : Bool) (end front : ℕ) (start : ℕ → ℕ) → start ≡ starts_at can end front → IsTrue can → (size : ℕ) →
     start size + 5 + size ≤ most_behind front size
@@ -42,7 +42,7 @@ module _ {D : Type 0} (may_leave : D → Image → Type 0) (moment : D → ℕ) 
 -- ---- a call that serves
 
 module _ {D : Type 0} (disk : a_disk.Ghosts D) where
-  within_started : (old new : D) (x : Handled) → IsStarted disk slots_ghosts old new x → IsWithin disk old new x
+  within_started : (old new : D) (x : Handled) → IsStarted disk slots_ghosts old new x → IsAcceptedWithin disk old new x
   within_started old new x s told =
       let shown = s.0 told in
       let log = shown.2.log in (
@@ -61,12 +61,12 @@ module _ {D : Type 0} (disk : a_disk.Ghosts D) where
       )
 
   parts_within : (content : Option Content) (most : ℕ) (old new : Outside D) (p : SessionState) (status : Status) (h : List TraceEvent)
-      (parts : Parts disk content most old new p status h) → AreWithin disk content most old new p status h parts
+      (parts : IsHaltedOrServed disk content most old new p status h) → AreAcceptedWithin disk content most old new p status h parts
   parts_within content most old new p status h (inl halted) = tt
   parts_within content most old new p status h (inr served) =
-      started_more (IsStarted disk slots_ghosts served.2.disk new.disk) (IsWithin disk served.2.disk new.disk)
+      started_more (IsStarted disk slots_ghosts served.2.disk new.disk) (IsAcceptedWithin disk served.2.disk new.disk)
       (within_started served.2.disk new.disk) (served.8.rounds ++ round_of_last served.8.last) served.8.starts
 
   pub serves_within : ServesWithin disk
   serves_within content old new result d turns s =
-      parts_within content turns (on_disk s.from old) new s.place result s.history s.call.parts
+      parts_within content turns (on_disk s.from old) new s.state result s.history s.call.parts

@@ -8,7 +8,7 @@ use Rattle.std.proofs.lemmas.List.{append_cancel_left, length-append}
 use Rattle.nuc_base.specs.declared.kinds.Outcome.{Outcome}
 use Rattle.records.specs.Stored.{Plan, Record, Accepted, BootBegun, BootEnded, Activating, StepFailed, Failing, FailingBack, Closed}
 use Rattle.device.specs.Devices.{Device, Pending}
-use Rattle.device.specs.Lawful.{MayClose, Run, activated, applied, begun, boot_ended, close_pending, count_failure, rolled, turned_back}
+use Rattle.device.specs.Lawful.{MayClose, Run, activated, applied, begun, boot_ended, close_pending, count_failure, rolled, sent_back}
 use Rattle.histories.specs.Once.{TakesOnce}
 use Rattle.histories.specs.States.{takes_document}
 use Rattle.law_histories.proofs.Growing.{head_same, tail_same}
@@ -34,7 +34,7 @@ none_on c (BootEnded n e) free none = ap (option_map (boot_ended e)) none
 none_on c Activating free none = ap (option_map activated) none
 none_on c (StepFailed n s e) free none = ap (option_map (count_failure c.set n)) none
 none_on c (Failing n) free none = ap (option_map rolled) none
-none_on c (FailingBack n) free none = ap (option_map (turned_back c.origin c.set)) none
+none_on c (FailingBack n) free none = ap (option_map (sent_back c.origin c.set)) none
 none_on c (Closed o) free none = close_none o c c.pending refl
 none_on c r free none = none
 
@@ -66,16 +66,16 @@ still_closed d e (r ∷ records) once run some =
 -- ---- the last record
 
 -- the run of all but the last
-run_less : (d e : Device) (front : List Record) (r : Record) → Run d (front ++ r ∷ []) e → (c : Device) × Run d front c × (e ≡ applied c r) ×
+run_less : (d e : Device) (prefix : List Record) (r : Record) → Run d (prefix ++ r ∷ []) e → (c : Device) × Run d prefix c × (e ≡ applied c r) ×
     Run c (r ∷ []) e
 run_less d e [] r run = (d, refl, run.2 ∙ run.1.leaves, run)
-run_less d e (s ∷ front) r run =
-    let more = run_less run.0 e front r run.2 in
+run_less d e (s ∷ prefix) r run =
+    let more = run_less run.0 e prefix r run.2 in
     (more.0, (run.0, run.1, more.1), more.2, more.3)
 
-once_less : (front : List Record) (taken : Bool) (r : Record) → TakesOnce taken (front ++ r ∷ []) → TakesOnce taken front
+once_less : (prefix : List Record) (taken : Bool) (r : Record) → TakesOnce taken (prefix ++ r ∷ []) → TakesOnce taken prefix
 once_less [] taken r once = tt
-once_less (s ∷ front) taken r once = (once.0, once_less front _ r once.1)
+once_less (s ∷ prefix) taken r once = (once.0, once_less prefix _ r once.1)
 
 may_some : (o : Outcome) (x : Option Pending) → IsSomeAnd x (λ q. MayClose q o) → IsSome x
 may_some o None may = absurd may
@@ -93,23 +93,23 @@ same_outcome a b o u more is = ap (λ (p : List ℕ × Outcome). p.1) (head_same
 pub closes_as : (d e : Device) (plan : Plan) (records : List Record) (o u : Outcome) → TakesOnce true records → Run d records e → ClosesAs o records
     → ClosedAs d plan u e → o ≡ u
 closes_as d e plan records o u once run closes closed =
-    let front = closes.0 in
+    let prefix = closes.0 in
     let whole = subst (λ (l : List Record). Run d l e) closes.1 run in
-    let last = run_less d e front (Closed o) whole in
+    let last = run_less d e prefix (Closed o) whole in
     let c = last.0 in
     let some = may_some o c.pending last.3.1.allowed in
-    let before = once_less front true (Closed o) (subst (λ (l : List Record). TakesOnce true l) closes.1 once) in
+    let before = once_less prefix true (Closed o) (subst (λ (l : List Record). TakesOnce true l) closes.1 once) in
     let one = closes_one o c c.pending some in
     let same : e.closed ≡ d.closed ++ (one.0.plan.id, o) ∷ [] =
     ap (λ (x : Device). x.closed) last.2 ∙ one.1 ∙ ap (λ (l : List (List ℕ × Outcome)). l ++ (one.0.plan.id, o) ∷ [])
-    (still_closed d c front before last.1 some) in
+    (still_closed d c prefix before last.1 some) in
     same_outcome one.0.plan.id plan.id o u closed.0
     (append_cancel_left d.closed ((one.0.plan.id, o) ∷ []) (((plan.id, u) ∷ []) ++ closed.0)
     (sym same ∙ closed.1 ∙ append_assoc d.closed ((plan.id, u) ∷ []) closed.0))
 
-first_behind : (plan : Plan) (o : Outcome) (rest front : List Record) → Accepted plan ∷ rest ≡ front ++ Closed o ∷ [] → ClosesAs o rest
+first_behind : (plan : Plan) (o : Outcome) (rest prefix : List Record) → Accepted plan ∷ rest ≡ prefix ++ Closed o ∷ [] → ClosesAs o rest
 first_behind plan o rest [] is = absurd cc
-first_behind plan o rest (r ∷ front) is = (front, tail_same (Accepted plan) r rest (front ++ Closed o ∷ []) is)
+first_behind plan o rest (r ∷ prefix) is = (prefix, tail_same (Accepted plan) r rest (prefix ++ Closed o ∷ []) is)
 
 -- so it is from its acceptance on
 pub closes_behind : (d e : Device) (plan : Plan) (rest : List Record) (o u : Outcome) → TakesOnce true rest → Run d (Accepted plan ∷ rest) e

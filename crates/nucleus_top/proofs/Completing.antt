@@ -20,7 +20,7 @@ use Rattle.deployment_doc.specs.declared.document.Document.{Document}
 use Rattle.artifact_store.specs.Staged.{IsOutside, draft_lines}
 use Rattle.artifact_store.specs.declared.fault.StageFault.{StageFault}
 use Rattle.artifact_store.specs.declared.fault.StageFault.TheVariants as stage
-use Rattle.plan_core.specs.Checks.{AreCandidatesOf, Facts, Gathering, Planning, Room, Stops, facts, gather_refusal, plan_checks}
+use Rattle.plan_core.specs.Checks.{AreCandidatesOf, Facts, Gathering, Planning, Room, RefusalOf, facts, gather_refusal, plan_checks}
 use Rattle.plan_core.specs.Plans.{IsRefused, room_lines, size_lines}
 use Rattle.plan_core.specs.Set.{items_of}
 use Rattle.plan_core.specs.declared.fault.PlanFault.{PlanFault}
@@ -38,23 +38,24 @@ use Rattle.histories.specs.States.{SessionState, state_after}
 use Rattle.law_histories.specs.Ends.{NoneFails, NoneRecorded}
 use Rattle.law_histories.specs.Onward.{ClosedAs, ComesUp, DeploysGoOn, ResumesGoOn}
 use Rattle.law_histories.specs.Stood.{IsHistory}
-use Rattle.admission.specs.Requests.{Requests, TakesBy}
-use Rattle.admission.specs.Takes.{HasDiskFailed, HasLibraryFailed, Takes}
+use Rattle.admission.specs.Requests.{AskOutcome, TakesBy}
+use Rattle.admission.specs.Takes.{HasDiskFailed, HasLibraryFailed, AdmissionOutcome}
 use Rattle.admission.specs.declared.ask.Ask.{Ask}
 use Rattle.admission.specs.declared.ask.Ask.TheVariants as ask
 use Rattle.admission.specs.declared.fault.Declined.{Declined}
 use Rattle.admission.specs.declared.fault.Declined.TheVariants.{Refused, Unstaged, Unasked}
-use Rattle.session.specs.Calls.{Call, Ends, IsOrEdge, IsPendingAs}
+use Rattle.session.specs.Calls.{Call, IsEndingOf, IsOrEdge, IsPendingAs}
 use Rattle.session.specs.Declines.{status_of_declined}
-use Rattle.session.specs.Documents.{FitsFrom, Follows, IsPutOff}
-use Rattle.session.specs.Endings.{Ending, Closes, Restarts, Reboots, Fails, Breaks, Forgets, Starves, Declines, Full, Idle, IsBegun, Resumes, ResumesBy}
+use Rattle.session.specs.Documents.{FitsFrom, TakenEnding, IsPutOff}
+use Rattle.session.specs.Endings.{Ending, ByClose, ByRestart, ByReboot, ByDiskFault, BySinkFault, WantAfter, WantBefore, ByDecline, Full, Idle}
+use Rattle.session.specs.Endings.{IsBegun, ResumeEnding, PendingEnding}
 use Rattle.session.specs.Endings.{status_of_ending}
 use Rattle.session_startup.specs.Ended.{ClosesAs}
-use Rattle.nucleus_top.specs.Answers.{Input, Printed, Shelf, Store, Told, status_of, store_of}
-use Rattle.nucleus_top.specs.Completeness.{AllStand, DeploysComplete, EndsDriven, EndsWell, GetsOn, IsComplete, MayAsk, MayDeploy, NoFaults, ResumesGetOn}
-use Rattle.nucleus_top.specs.Drives.{DeploysOn, DriveParts, IsDeployedOn, IsRefusedBefore, IsResumedOn, MayNotOpen, StartsFrom}
-use Rattle.nucleus_top.specs.Drives.{TurnsAway, shelf_for}
-use Rattle.nucleus_top.specs.Opening.{Stands}
+use Rattle.nucleus_top.specs.Answers.{Input, Printed, Shelf, Store, IsPrinted, status_of, store_of}
+use Rattle.nucleus_top.specs.Completeness.{AreImagesOf, DeploysComplete, EndsDriven, EndsWell, HasGotOn, IsComplete, MayAsk, MayDeploy, NoFaults, ResumesGetOn}
+use Rattle.nucleus_top.specs.Drives.{IsInputDeployed, DriveParts, IsDeployedOn, IsRefusedBefore, IsResumedOn, MayNotOpen, StartsFrom}
+use Rattle.nucleus_top.specs.Drives.{MayNotDeploy, shelf_for}
+use Rattle.nucleus_top.specs.Opening.{IsImageOf}
 use Rattle.nucleus_top.specs.Planning.{IsFound}
 use Rattle.nucleus_top.specs.declared.answer.Answer.{Answer}
 use Rattle.nucleus_top.specs.declared.answer.Answer.TheVariants.{Damaged, DiskFailed, NoMemory, NotInitialised, Pending as PendingStands, SourceFailed}
@@ -83,17 +84,17 @@ module _ (d : Device) (o : Origin) (l : Content) (before after : ℕ) (quiet : R
         let choice = sizes.1.0 in
         first_excludes (size_lines (items_of d.set document.roots choice)) fault (p.sizes choice sizes.1.1) sizes.1.2
 
-    at_planning : (a : Refusal) → AreCandidatesOf found → Stops found (Planning ∷ []) a → a ≡ refusal.NoMemory
+    at_planning : (a : Refusal) → AreCandidatesOf found → RefusalOf found (Planning ∷ []) a → a ≡ refusal.NoMemory
     at_planning a are (inl memory) = memory
     at_planning a are (inr (inl fails)) = absurd (none_refused fails.0 are fails.1)
     at_planning a are (inr (inr more)) = absurd more.1
 
-    at_room : (a : Refusal) → AreCandidatesOf found → Stops found (Room ∷ Planning ∷ []) a → a ≡ refusal.NoMemory
+    at_room : (a : Refusal) → AreCandidatesOf found → RefusalOf found (Room ∷ Planning ∷ []) a → a ≡ refusal.NoMemory
     at_room a are (inl memory) = memory
     at_room a are (inr (inl fails)) = absurd (first_excludes (room_lines d document) fails.0 may.room fails.1)
     at_room a are (inr (inr more)) = at_planning a are more.1
 
-    at_gathering : (a : Refusal) → Stops found (Gathering ∷ Room ∷ Planning ∷ []) a → a ≡ refusal.NoMemory
+    at_gathering : (a : Refusal) → RefusalOf found (Gathering ∷ Room ∷ Planning ∷ []) a → a ≡ refusal.NoMemory
     at_gathering a (inl memory) = memory
     at_gathering a (inr (inl fails)) = elim (may.gathered fails.0 (fails.1.told l told)) [
       | inl library ↦ absurd (quiet (fails.1.cause library))
@@ -101,7 +102,7 @@ module _ (d : Device) (o : Origin) (l : Content) (before after : ℕ) (quiet : R
     ]
     at_gathering a (inr (inr more)) = at_room a more.0 more.1
 
-    stops_short : (a : Refusal) → Stops found plan_checks a → a ≡ refusal.NoMemory
+    stops_short : (a : Refusal) → RefusalOf found plan_checks a → a ≡ refusal.NoMemory
     stops_short a (inl memory) = memory
     stops_short a (inr (inl fails)) = let no : None ≡ Some fails.0 = sym may.is_open ∙ fails.1 in absurd cc
     stops_short a (inr (inr (opens, (inl memory)))) = memory
@@ -113,7 +114,7 @@ module _ (d : Device) (o : Origin) (l : Content) (before after : ℕ) (quiet : R
     outside_short f (inr (inl is)) disk library = absurd (library is)
     outside_short f (inr (inr is)) disk library = ap (λ (x : StageFault). status_of_declined (Unstaged x)) is
 
-    takes_in : (taken : Result code.Plan Declined) → Takes found taken → (HasDiskFailed taken → ⊥) → (HasLibraryFailed taken → ⊥) → Taken start taken
+    takes_in : (taken : Result code.Plan Declined) → AdmissionOutcome found taken → (HasDiskFailed taken → ⊥) → (HasLibraryFailed taken → ⊥) → Taken start taken
     takes_in (Ok plan) takes disk library =
         let passes = takes.0.1.1 in
         (may.planned cs (passes.0.told l told)).room draft (plan_view plan) passes.1.1.0 takes.1.fills
@@ -142,12 +143,12 @@ Begun taken ending records = (plan : code.Plan) × (taken ≡ Ok plan) × IsBegu
     TakesOnce true rest
 
 put_off : (start : ℕ → ℕ) (plan : Plan) (ending : Ending) → FitsFrom start plan → IsPutOff start plan ending → status_of_ending ending ≡ status.Memory
-put_off start plan Starves fits off = refl
+put_off start plan WantBefore fits off = refl
 put_off start plan (Full at) fits off = absurd (fits (subst (λ (n : ℕ). IsTooFar n (plan_bytes plan)) off.0 off.1))
 put_off start plan ending fits off = absurd off
 
 follows_begun : (start : ℕ → ℕ) (taken : Result code.Plan Declined) (ending : Ending) (records : List Record) → Taken start taken
-    → Follows start taken ending records → (status_of_ending ending ≡ status.Memory) ⊎ Begun taken ending records
+    → TakenEnding start taken ending records → (status_of_ending ending ≡ status.Memory) ⊎ Begun taken ending records
 follows_begun start (Ok plan) ending records fits (inl off) = inl (put_off start (plan_view plan) ending fits off.0)
 follows_begun start (Ok plan) ending records fits (inr on) = inr (plan, refl, on.0, on.2.0, on.2.1, on.2.2)
 follows_begun start (Err x) ending records short (inl declines, none) = inl (ap status_of_ending declines ∙ short)
@@ -155,14 +156,14 @@ follows_begun start (Err x) ending records short (inr starves, none) = inl (ap s
 
 -- it closes, however that is, or as it was to
 abbrev ClosesWell : Ending → Type 0
-ClosesWell ending = (o : Outcome) → ending ≡ Closes o → o ≡ outcomes.Successful
+ClosesWell ending = (o : Outcome) → ending ≡ ByClose o → o ≡ outcomes.Successful
 
 module _ (result : Status) (edge : result ≡ status.Edge → ⊥) where
   short_of : (given : Status) → given ≡ status.Memory → IsOrEdge result given → result ≡ status.Memory
   short_of given short (inl is) = is ∙ short
   short_of given short (inr is) = absurd (edge is)
 
-  of_outcome : (o : Outcome) → result ≡ status_of_ending (Closes o) → EndsDriven result × (ClosesWell (Closes o) → EndsWell result)
+  of_outcome : (o : Outcome) → result ≡ status_of_ending (ByClose o) → EndsDriven result × (ClosesWell (ByClose o) → EndsWell result)
   of_outcome outcomes.Successful is = (inr (inr (inr (inl is))), λ well. inl is)
   of_outcome outcomes.RollbackComplete is = (
     inl is,
@@ -177,17 +178,17 @@ module _ (result : Status) (edge : result ≡ status.Edge → ⊥) where
     λ well. let no : outcomes.UnableToRollback ≡ outcomes.Successful = well outcomes.UnableToRollback refl in absurd cc,
   )
 
-  begun_ends : (ending : Ending) → IsBegun ending → (ending ≡ Fails → ⊥) → IsOrEdge result (status_of_ending ending)
+  begun_ends : (ending : Ending) → IsBegun ending → (ending ≡ ByDiskFault → ⊥) → IsOrEdge result (status_of_ending ending)
       → (result ≡ status.Memory) ⊎ (EndsDriven result × (ClosesWell ending → EndsWell result))
   begun_ends ending begun fails (inr is) = absurd (edge is)
-  begun_ends (Closes o) begun fails (inl is) = inr (of_outcome o is)
-  begun_ends (Restarts id) begun fails (inl is) = inr (inr (inr (inr (inr (inl is)))), λ well. inr (inl is))
-  begun_ends (Reboots id) begun fails (inl is) = inr (inr (inr (inr (inr (inr is)))), λ well. inr (inr is))
-  begun_ends Fails begun fails (inl is) = absurd (fails refl)
-  begun_ends Breaks begun fails (inl is) = absurd (edge is)
-  begun_ends Forgets begun fails (inl is) = inl is
-  begun_ends Starves begun fails (inl is) = absurd begun
-  begun_ends (Declines x) begun fails (inl is) = absurd begun
+  begun_ends (ByClose o) begun fails (inl is) = inr (of_outcome o is)
+  begun_ends (ByRestart id) begun fails (inl is) = inr (inr (inr (inr (inr (inl is)))), λ well. inr (inl is))
+  begun_ends (ByReboot id) begun fails (inl is) = inr (inr (inr (inr (inr (inr is)))), λ well. inr (inr is))
+  begun_ends ByDiskFault begun fails (inl is) = absurd (fails refl)
+  begun_ends BySinkFault begun fails (inl is) = absurd (edge is)
+  begun_ends WantAfter begun fails (inl is) = inl is
+  begun_ends WantBefore begun fails (inl is) = absurd begun
+  begun_ends (ByDecline x) begun fails (inl is) = absurd begun
   begun_ends (Full at) begun fails (inl is) = absurd begun
   begun_ends Idle begun fails (inl is) = absurd begun
 
@@ -198,9 +199,9 @@ no_pending x q none some = let no : None ≡ Some q = sym none ∙ some in cc
 
 module _ (quiet : NoneRecorded) (law : DeploysGoOn) where
   deploy_closes : (p : SessionState) (h : List TraceEvent) (plan : Plan) (rest : List Record) (ending : Ending) → IsHistory p h
-      → records_of h ≡ Accepted plan ∷ rest → TakesOnce true rest → Ends ending h (state_after p h) → NoneFails p h → ClosesWell ending
+      → records_of h ≡ Accepted plan ∷ rest → TakesOnce true rest → IsEndingOf ending h (state_after p h) → NoneFails p h → ClosesWell ending
   deploy_closes p h plan rest ending is first once ends none o same =
-      let closes = subst (λ (e : Ending). Ends e h (state_after p h)) same ends in
+      let closes = subst (λ (e : Ending). IsEndingOf e h (state_after p h)) same ends in
       elim (law p h plan rest is first (quiet p h is none)) [
         | inl closed ↦ closes_behind p.device (state_after p h).device plan rest o outcomes.Successful once
             (subst (λ (l : List Record). Run p.device l (state_after p h).device) first is.run)
@@ -219,7 +220,7 @@ pending_some id None is = absurd is
 pending_some id (Some q) is = refl
 
 -- what is no beginning ends no call that resumes
-other_begun : (ending : Ending) → IsBegun ending ⊎ (ending ≡ Starves) → (IsBegun ending → ⊥) → (ending ≡ Starves → ⊥) → ⊥
+other_begun : (ending : Ending) → IsBegun ending ⊎ (ending ≡ WantBefore) → (IsBegun ending → ⊥) → (ending ≡ WantBefore → ⊥) → ⊥
 other_begun ending (inl is) begun starves = begun is
 other_begun ending (inr is) begun starves = starves is
 
@@ -246,17 +247,17 @@ module _ {D : Type 0} (is_modelled : Bool) (seen : D → Image) (may_leave : D �
 
   module _ (old_list new_list : Option (List RunnerEntry)) where
     deployed_complete : NoneRecorded → DeploysGoOn → (what : Ask) (d : Device) (o : Origin) (start : ℕ → ℕ) (bytes : List ℕ) (l : Content)
-        → IsDeployedOn may_leave moment left_since faults old new old_list new_list printed result d start (shelf_for what library) (Requests what bytes)
-        → d.origin ≡ Some o → (shelf_for what library).content ≡ Some l → MayAsk d o l start (Requests what bytes)
+        → IsDeployedOn may_leave moment left_since faults old new old_list new_list printed result d start (shelf_for what library) (AskOutcome what bytes)
+        → d.origin ≡ Some o → (shelf_for what library).content ≡ Some l → MayAsk d o l start (AskOutcome what bytes)
         → (result ≡ status.Memory)
-        ⊎ IsComplete may_leave moment left_since faults old new old_list new_list printed result d (shelf_for what library) (Requests what bytes)
+        ⊎ IsComplete may_leave moment left_since faults old new old_list new_list printed result d (shelf_for what library) (AskOutcome what bytes)
     deployed_complete quiet law what d o start bytes l h origin told may =
         let shelf = shelf_for what library in
         let origin_is = some_one d.origin h.origin o h.origin_is origin in
         let call = h.call.0 in
         let records = records_of call.history in
-        let taken = takes_by d h.origin l shelf.faults_before shelf.faults_after (shelf_quiet what) start shelf.content told (Requests what bytes)
-        (subst (λ (x : Origin). MayAsk d x l start (Requests what bytes)) (sym origin_is) may)
+        let taken = takes_by d h.origin l shelf.faults_before shelf.faults_after (shelf_quiet what) start shelf.content told (AskOutcome what bytes)
+        (subst (λ (x : Origin). MayAsk d x l start (AskOutcome what bytes)) (sym origin_is) may)
         h.taken h.takes (λ failed. none.quiet_disk (h.disk_cause failed)) (λ failed. shelf_quiet what (h.library_cause failed)) in
         elim (follows_begun start h.taken call.ending records taken h.call.1) [
           | inl short ↦ inl (short_of result never_edge (status_of_ending call.ending) short call.answers)
@@ -271,7 +272,7 @@ module _ {D : Type 0} (is_modelled : Bool) (seen : D → Image) (may_leave : D �
                   rest = rest;
                   accepted = first;
                   ends = driven;
-                  quiet = λ fails. well (deploy_closes quiet law h.place call.history (plan_view plan) rest call.ending h.driven.history first once call.ends
+                  quiet = λ fails. well (deploy_closes quiet law h.state call.history (plan_view plan) rest call.ending h.driven.history first once call.ends
                       fails);
                 })
               ]
@@ -282,7 +283,7 @@ module _ {D : Type 0} (is_modelled : Bool) (seen : D → Image) (may_leave : D �
     -- each image at the end stands for the device of all records, unless the disk failed
     left_stands : (p : SessionState)
         (call : Call slots_entries slots_files may_leave moment left_since old new old_list new_list printed.before printed.after p result)
-        → (call.ending ≡ Fails → ⊥) → AllStand (may_leave new) (state_after p call.history).device
+        → (call.ending ≡ ByDiskFault → ⊥) → AreImagesOf (may_leave new) (state_after p call.history).device
     left_stands p call fails = call.prints.stable (call.prints.all fails)
 
     module _ (quiet : NoneRecorded) (law : ResumesGoOn) (d : Device) (q : Pending)
@@ -291,40 +292,40 @@ module _ {D : Type 0} (is_modelled : Bool) (seen : D → Image) (may_leave : D �
       history = h.call.history
 
       abbrev left : Device
-      left = (state_after h.place history).device
+      left = (state_after h.state history).device
 
-      here : h.place.device.pending ≡ Some q
+      here : h.state.device.pending ≡ Some q
       here = ap (λ (x : Device). x.pending) h.driven.device_is ∙ some
 
-      never_fails : h.call.ending ≡ Fails → ⊥
+      never_fails : h.call.ending ≡ ByDiskFault → ⊥
       never_fails is = none.quiet_disk (h.failed is)
 
       once : TakesOnce true (records_of history)
       once = subst (λ (b : Bool). TakesOnce b (records_of history)) (ap (λ (p : SessionState). p.taken) h.driven.history.start ∙ ap is_some here) h.call.once
 
-      resumed_closes : (o : Outcome) → result ≡ status_of_ending (Closes o) → ComesUp q → Ends (Closes o) history (state_after h.place history)
-          → NoneFails h.place history → GetsOn (may_leave new) d q result
-      resumed_closes o is up ends fails = elim (law h.place history q h.driven.history here up (quiet h.place history h.driven.history fails)) [
+      resumed_closes : (o : Outcome) → result ≡ status_of_ending (ByClose o) → ComesUp q → IsEndingOf (ByClose o) history (state_after h.state history)
+          → NoneFails h.state history → HasGotOn (may_leave new) d q result
+      resumed_closes o is up ends fails = elim (law h.state history q h.driven.history here up (quiet h.state history h.driven.history fails)) [
         | inl closed ↦
-            let well = closes_as h.place.device left q.plan (records_of history) o outcomes.Successful once h.driven.history.run ends.0 closed in
+            let well = closes_as h.state.device left q.plan (records_of history) o outcomes.Successful once h.driven.history.run ends.0 closed in
             inl (record {
-              done = is ∙ ap (λ (u : Outcome). status_of_ending (Closes u)) well;
+              done = is ∙ ap (λ (u : Outcome). status_of_ending (ByClose u)) well;
               left = left;
-              stands = left_stands h.place h.call never_fails;
+              stands = left_stands h.state h.call never_fails;
               none = ends.1;
               closed = subst (λ (x : Device). ClosedAs x q.plan outcomes.Successful left) h.driven.device_is closed;
             })
         | inr still ↦ absurd (no_pending left.pending still.new ends.1 still.pending)
       ]
 
-      resumed_restarts : (result ≡ status.Restart) ⊎ (result ≡ status.Reboot) → ComesUp q → IsSome left.pending → NoneFails h.place history
-          → GetsOn (may_leave new) d q result
-      resumed_restarts asks up pends fails = elim (law h.place history q h.driven.history here up (quiet h.place history h.driven.history fails)) [
-        | inl closed ↦ absurd (pending_none h.place.device left q.plan (records_of history) outcomes.Successful once h.driven.history.run pends closed)
+      resumed_restarts : (result ≡ status.Restart) ⊎ (result ≡ status.Reboot) → ComesUp q → IsSome left.pending → NoneFails h.state history
+          → HasGotOn (may_leave new) d q result
+      resumed_restarts asks up pends fails = elim (law h.state history q h.driven.history here up (quiet h.state history h.driven.history fails)) [
+        | inl closed ↦ absurd (pending_none h.state.device left q.plan (records_of history) outcomes.Successful once h.driven.history.run pends closed)
         | inr still ↦ inr (record {
           asks = asks;
           left = left;
-          stands = left_stands h.place h.call never_fails;
+          stands = left_stands h.state h.call never_fails;
           next = still.new;
           pending = still.pending;
           up = still.up;
@@ -333,29 +334,29 @@ module _ {D : Type 0} (is_modelled : Bool) (seen : D → Image) (may_leave : D �
         })
       ]
 
-      resumed_on : (ending : Ending) → h.call.ending ≡ ending → ComesUp q → IsOrEdge result (status_of_ending ending) → ResumesBy (Some q) ending
-          → Ends ending history (state_after h.place history)
-          → (result ≡ status.Memory) ⊎ (NoneFails h.place history → GetsOn (may_leave new) d q result)
+      resumed_on : (ending : Ending) → h.call.ending ≡ ending → ComesUp q → IsOrEdge result (status_of_ending ending) → PendingEnding (Some q) ending
+          → IsEndingOf ending history (state_after h.state history)
+          → (result ≡ status.Memory) ⊎ (NoneFails h.state history → HasGotOn (may_leave new) d q result)
       resumed_on ending same up (inr is) begun ends = absurd (never_edge is)
-      resumed_on (Closes o) same up (inl is) begun ends = inr (λ fails. resumed_closes o is up ends fails)
-      resumed_on (Restarts id) same up (inl is) begun ends = inr (λ fails. resumed_restarts (inl is) up (pending_some id left.pending ends.1) fails)
-      resumed_on (Reboots id) same up (inl is) begun ends = inr (λ fails. resumed_restarts (inr is) up (pending_some id left.pending ends.1) fails)
-      resumed_on Fails same up (inl is) begun ends = absurd (never_fails same)
-      resumed_on Breaks same up (inl is) begun ends = absurd (never_edge is)
-      resumed_on Forgets same up (inl is) begun ends = inl is
-      resumed_on Starves same up (inl is) begun ends = inl is
-      resumed_on (Declines x) same up (inl is) begun ends = absurd (other_begun (Declines x) begun (λ e. e) (λ e. cc))
+      resumed_on (ByClose o) same up (inl is) begun ends = inr (λ fails. resumed_closes o is up ends fails)
+      resumed_on (ByRestart id) same up (inl is) begun ends = inr (λ fails. resumed_restarts (inl is) up (pending_some id left.pending ends.1) fails)
+      resumed_on (ByReboot id) same up (inl is) begun ends = inr (λ fails. resumed_restarts (inr is) up (pending_some id left.pending ends.1) fails)
+      resumed_on ByDiskFault same up (inl is) begun ends = absurd (never_fails same)
+      resumed_on BySinkFault same up (inl is) begun ends = absurd (never_edge is)
+      resumed_on WantAfter same up (inl is) begun ends = inl is
+      resumed_on WantBefore same up (inl is) begun ends = inl is
+      resumed_on (ByDecline x) same up (inl is) begun ends = absurd (other_begun (ByDecline x) begun (λ e. e) (λ e. cc))
       resumed_on (Full at) same up (inl is) begun ends = absurd (other_begun (Full at) begun (λ e. e) (λ e. cc))
       resumed_on Idle same up (inl is) begun ends = absurd (other_begun Idle begun (λ e. e) (λ e. cc))
 
-      resumed_gets_on : ComesUp q → (result ≡ status.Memory) ⊎ (NoneFails h.place history → GetsOn (may_leave new) d q result)
+      resumed_gets_on : ComesUp q → (result ≡ status.Memory) ⊎ (NoneFails h.state history → HasGotOn (may_leave new) d q result)
       resumed_gets_on up =
-          resumed_on h.call.ending refl up h.call.answers (subst (λ (x : Option Pending). ResumesBy x h.call.ending) some h.resumes) h.call.ends
+          resumed_on h.call.ending refl up h.call.answers (subst (λ (x : Option Pending). PendingEnding x h.call.ending) some h.resumes) h.call.ends
 
   -- ---- it is opened
 
   -- on a device that is found, one is refused for want of memory alone
-  module _ (told : IsTrue is_modelled) (d : Device) (stands : Stands (seen old) d) (some : IsSome d.origin) where
+  module _ (told : IsTrue is_modelled) (d : Device) (stands : IsImageOf (seen old) d) (some : IsSome d.origin) where
     one_device : (e : Device) → IsFound store e → e ≡ d
     one_device e found = (are_found (seen old) d stands some).one e (found told).1
 
@@ -367,21 +368,21 @@ module _ {D : Type 0} (is_modelled : Bool) (seen : D → Image) (may_leave : D �
     opens_short NoMemory why = refl
     opens_short a why = absurd why
 
-    turns_short : d.pending ≡ None → (a : Answer) → TurnsAway store input a → a ≡ NoMemory
-    turns_short idle (PendingStands id) why =
+    idle_refused_short : d.pending ≡ None → (a : Answer) → MayNotDeploy store input a → a ≡ NoMemory
+    idle_refused_short idle (PendingStands id) why =
         absurd (subst (λ (x : Option Pending). IsSomeAnd x (λ p. p.plan.id ≡ id)) idle
         (subst (λ (x : Device). IsPendingAs id x) (one_device why.0.0 why.0.1) why.0.2))
-    turns_short idle SourceFailed why = absurd (none.quiet_source why.1)
-    turns_short idle a why = opens_short a why
+    idle_refused_short idle SourceFailed why = absurd (none.quiet_source why.1)
+    idle_refused_short idle a why = opens_short a why
 
     -- what is told then
-    told_short : (a : Answer) → a ≡ NoMemory → Told printed result a → result ≡ status.Memory
+    told_short : (a : Answer) → a ≡ NoMemory → IsPrinted printed result a → result ≡ status.Memory
     told_short a is (inl says) = says.0 ∙ ap status_of is
     told_short a is (inr cut) = absurd (none.quiet_sink cut.1.rose)
 
     refused_short : (why_so : Answer → Type 0) → ((a : Answer) → why_so a → a ≡ NoMemory)
         → IsRefusedBefore seen may_leave moment left_since why_so old new printed result → result ≡ status.Memory
-    refused_short why_so short away = told_short away.answer (short away.answer away.why) away.told
+    refused_short why_so short away = told_short away.answer (short away.answer away.why) away.is_printed
 
 -- ---- the laws
 
@@ -391,20 +392,20 @@ module _ {D : Type 0} (is_modelled : Bool) (seen : D → Image) (may_leave : D �
   deploys_complete quiet law old new old_list new_list input library printed result what d o bytes l (inl away) parts none told stands origin idle reads
       holds may =
       inl (refused_short is_modelled seen may_leave moment left_since faults old new input library printed result parts none told d stands
-      (is_some_of d.origin o origin) (λ a. TurnsAway (store_of is_modelled seen faults old new) input a)
-      (turns_short is_modelled seen may_leave moment left_since faults old new input library printed result parts none told d stands
+      (is_some_of d.origin o origin) (λ a. MayNotDeploy (store_of is_modelled seen faults old new) input a)
+      (idle_refused_short is_modelled seen may_leave moment left_since faults old new input library printed result parts none told d stands
       (is_some_of d.origin o origin) idle) away)
   deploys_complete quiet law old new old_list new_list input library printed result what d o bytes l (inr (e, start, found, starts, on)) parts none told
       stands origin idle reads holds may =
       let same = one_device is_modelled seen may_leave moment left_since faults old new input library printed result parts none told d stands
       (is_some_of d.origin o origin) e found in
       let from = subst (λ (x : Device). StartsFrom (seen old) x start) same (starts told) in
-      let here = subst (λ (x : Device). DeploysOn may_leave moment left_since faults old new old_list new_list printed result what x start input
+      let here = subst (λ (x : Device). IsInputDeployed may_leave moment left_since faults old new old_list new_list printed result what x start input
       (shelf_for what library)) same on in
       deployed_complete is_modelled seen may_leave moment left_since faults old new input library printed result parts none old_list new_list quiet law what d
       o start bytes l
       (subst (λ (b : List ℕ). IsDeployedOn may_leave moment left_since faults old new old_list new_list printed result d start (shelf_for what library)
-      (Requests what b)) (here.1.whole bytes reads) here.2)
+      (AskOutcome what b)) (here.1.whole bytes reads) here.2)
       origin holds (may start from)
 
   pub resumes_get_on : NoneRecorded → ResumesGoOn → ResumesGetOn is_modelled seen may_leave moment left_since faults

@@ -1,10 +1,10 @@
 -- What a crash leaves of a call that drives a deployment.
 use Rattle.std.proofs.Common.{◌≡◌, ◌∙◌, ⊎_elim, inl, inr, ℕ, ◌+◌, List, [], ◌∷◌, ◌++◌, Option, ap, refl, sym, subst}
 use Rattle.std.specs.Prelude.{Bool, IsTrue}
-use Rattle.disk_model.specs.Disk.{Image, After, DiskLaws, Leaves}
+use Rattle.disk_model.specs.Disk.{Image, IsAfter, DiskLaws, HasLeft}
 use Rattle.disk_model.specs.Listing.{artifacts, IsBelow}
 use Rattle.disk_model.specs.Moments.{joined, now, tells_of, weaker}
-use Rattle.disk_model.specs.Spares.{Spares}
+use Rattle.disk_model.specs.Spares.{IsSameBut}
 use Rattle.gate_log.specs.Entries.{journal, ClosedAt, HoldsNone}
 use Rattle.gate_log.specs.Journal.{AreSettled}
 use Rattle.checkpoint_log.specs.Beginnings.{second, slot, IsOlder}
@@ -17,7 +17,7 @@ use Rattle.device.specs.Devices.{Device, no_device}
 use Rattle.device.specs.Lawful.{Run}
 use Rattle.std.specs.Option.{IsSome}
 use Rattle.device.specs.Sound.{IsSound}
-use Rattle.device.specs.Standing.{Means, Plays}
+use Rattle.device.specs.Standing.{IsMeant, ArePayloads}
 use Rattle.device.proofs.Sounding.{none_sound, stays_sound}
 use Rattle.deploy_state.specs.States.{OwnsLoaded, activating_device, backing_device, booting_device, idle_device, loaded_device, rolling_device}
 use Rattle.deploy_state.specs.declared.state.Loaded.{Loaded}
@@ -30,7 +30,7 @@ use Rattle.session_boots.specs.Traces.{StandsForPrefix}
 use Rattle.admission.specs.Takes.{LieElsewhere}
 use Rattle.session.specs.Calls.{Call, ChangesArtifactsAlone, StandsWhole}
 use Rattle.nucleus_top.specs.Crashes.{AllowedOrPrefix, AllowedOrSame, KeepsJournal, LeavesPrefixes, LeavesSame, SaysSame}
-use Rattle.nucleus_top.specs.Opening.{Stands}
+use Rattle.nucleus_top.specs.Opening.{IsImageOf}
 use Rattle.nucleus_top.proofs.Images.{held_stands}
 use Rattle.nucleus_top.proofs.Standing.{same_device}
 
@@ -52,7 +52,7 @@ entries_stay a b payloads same (inr live) = inr (
   },
 )
 
-pub stands_stays : (d : Device) (a b : Image) → ((name : List ℕ) → slots_files name → b name ≡ a name) → Stands a d → Stands b d
+pub stands_stays : (d : Device) (a b : Image) → ((name : List ℕ) → slots_files name → b name ≡ a name) → IsImageOf a d → IsImageOf b d
 stands_stays d a b same h = record { payloads = h.payloads; live = entries_stay a b h.payloads same h.live; means = h.means; room = h.room }
 
 says_same : (a b : Image) → ((name : List ℕ) → slots_files name → b name ≡ a name) → SaysSame a b
@@ -62,23 +62,23 @@ says_same a b same = record {
   device = λ d stands. stands_stays d a b same stands;
 }
 
--- ---- fronts of records
+-- ---- prefixes of records
 
 -- no record
-pub none_front : (d : Device) (records : List Record) (c : Image) → Stands c d → StandsForPrefix slots_entries d records c
-none_front d records c h = record { front = []; rest = records; split = refl; device = d; run = refl; stands = h }
+pub none_prefix : (d : Device) (records : List Record) (c : Image) → IsImageOf c d → StandsForPrefix slots_entries d records c
+none_prefix d records c h = record { prefix = []; rest = records; split = refl; device = d; run = refl; stands = h }
 
-pub none_whole : (d : Device) (records : List Record) (c : Image) → Stands c d → HoldsDevice c d → StandsWhole slots_entries d records c
-unfolding none_front
-none_whole d records c h held = (none_front d records c h, held)
+pub none_whole : (d : Device) (records : List Record) (c : Image) → IsImageOf c d → HoldsDevice c d → StandsWhole slots_entries d records c
+unfolding none_prefix
+none_whole d records c h held = (none_prefix d records c h, held)
 
 -- ---- what a journal stands for is sound
 
-plays_sound : (payloads : List (List ℕ)) (d e : Device) → IsSound d → Plays d payloads e → IsSound e
+plays_sound : (payloads : List (List ℕ)) (d e : Device) → IsSound d → ArePayloads d payloads e → IsSound e
 plays_sound [] d e sound plays = subst IsSound (sym plays) sound
 plays_sound (p ∷ payloads) d e sound plays = plays_sound payloads plays.0 e (stays_sound d plays.0 plays.1.entry sound plays.1.lawful) plays.2
 
-pub means_sound : (payloads : List (List ℕ)) (e : Device) → Means payloads e → IsSound e
+pub means_sound : (payloads : List (List ℕ)) (e : Device) → IsMeant payloads e → IsSound e
 means_sound payloads e (inl plays) = plays_sound payloads no_device e none_sound plays
 means_sound payloads e (inr anew) = plays_sound anew.after anew.begun e anew.is.has.sound anew.plays
 
@@ -88,7 +88,7 @@ module _ {D : Type 0} {is_modelled : Bool} {seen : D → Image} {may_leave : D �
     (laws : DiskLaws is_modelled seen may_leave moment left_since) where
   -- each image of a state that is in hand stands for its device
   pub loaded_stands : (s : Loaded Slots) (disk : D) → OwnsLoaded is_modelled may_leave slots_stands (λ log. log.live.end) s disk → (c : Image) →
-      may_leave disk c → Stands c (loaded_device s)
+      may_leave disk c → IsImageOf c (loaded_device s)
   loaded_stands (loaded.Idle s) disk held c left = held_stands laws s.log disk (idle_device s) held.0 c left
   loaded_stands (loaded.Booting s) disk held c left = held_stands laws s.hand.log disk (booting_device s) held.0.0 c left
   loaded_stands (loaded.Activating s) disk held c left = held_stands laws s.hand.log disk (activating_device s) held.0.0 c left
@@ -111,22 +111,22 @@ module _ {D : Type 0} {is_modelled : Bool} {seen : D → Image} {may_leave : D �
   loaded_origin (loaded.Rolling s) disk held = held.0.0.origin
 
   -- what is allowed more where the disk tells
-  pub told_weaker : (old new : D) (P Q : Image → Type 0) → (IsTrue is_modelled → (c : Image) → P c → Q c) → Leaves moment left_since old new P →
-      Leaves moment left_since old new Q
+  pub told_weaker : (old new : D) (P Q : Image → Type 0) → (IsTrue is_modelled → (c : Image) → P c → Q c) → HasLeft moment left_since old new P →
+      HasLeft moment left_since old new Q
   told_weaker old new P Q more leaves = record {
     later = leaves.later;
-    each = λ c left. more (laws.told new (moment old) c left) c (leaves.each c left);
+    each = λ c left. more (laws.modelled new (moment old) c left) c (leaves.each c left);
     joins = leaves.joins;
     keeps = leaves.keeps;
   }
 
   -- ---- a call that keeps no record
 
-  pub same_left : (old new : D) → Leaves moment left_since old new (may_leave old) → LeavesSame may_leave moment left_since seen old new
+  pub same_left : (old new : D) → HasLeft moment left_since old new (may_leave old) → LeavesSame may_leave moment left_since seen old new
   same_left old new leaves = weaker laws old new _ _ (λ c left. inl left) leaves
 
   -- one behind another
-  pub same_on : (old mid new : D) (d : Device) → (IsTrue is_modelled → Stands (seen old) d) → (IsTrue is_modelled → Stands (seen mid) d)
+  pub same_on : (old mid new : D) (d : Device) → (IsTrue is_modelled → IsImageOf (seen old) d) → (IsTrue is_modelled → IsImageOf (seen mid) d)
       → LeavesSame may_leave moment left_since seen old mid → LeavesSame may_leave moment left_since seen mid new →
       LeavesSame may_leave moment left_since seen old new
   same_on old mid new d first_stands then_stands first second =
@@ -134,7 +134,7 @@ module _ {D : Type 0} {is_modelled : Bool} {seen : D → Image} {may_leave : D �
       (told_weaker mid new (AllowedOrSame (may_leave mid) (seen mid)) (AllowedOrSame (may_leave mid) (seen old))
       (λ told c was. ⊎_elim (λ left. inl left) (λ stands. inr (
         stands.0,
-        subst (λ (e : Device). Stands (seen old) e) (same_device (seen mid) d stands.0 (then_stands told) stands.1) (first_stands told),
+        subst (λ (e : Device). IsImageOf (seen old) e) (same_device (seen mid) d stands.0 (then_stands told) stands.1) (first_stands told),
         stands.2,
       )) was)
       second)
@@ -142,44 +142,44 @@ module _ {D : Type 0} {is_modelled : Bool} {seen : D → Image} {may_leave : D �
       (λ c was. ⊎_elim (λ left. now laws old mid _ first c left) (λ stands. inr stands) was)
 
   -- it keeps no record of the device for which the journal stood
-  pub same_fronts : (old new : D) (d : Device) → (IsTrue is_modelled → Stands (seen old) d) → LeavesSame may_leave moment left_since seen old new →
+  pub same_prefixes : (old new : D) (d : Device) → (IsTrue is_modelled → IsImageOf (seen old) d) → LeavesSame may_leave moment left_since seen old new →
       LeavesPrefixes may_leave moment left_since old new d []
-  same_fronts old new d stands leaves =
+  same_prefixes old new d stands leaves =
       told_weaker old new (AllowedOrSame (may_leave old) (seen old)) (AllowedOrPrefix (may_leave old) d [])
       (λ told c was. ⊎_elim (λ left. inl left) (λ other. inr
-      (none_front d [] c (subst (λ (e : Device). Stands c e) (same_device (seen old) other.0 d other.1 (stands told)) other.2))) was)
+      (none_prefix d [] c (subst (λ (e : Device). IsImageOf c e) (same_device (seen old) other.0 d other.1 (stands told)) other.2))) was)
       leaves
 
   -- ---- a call that keeps records
 
   -- behind one that keeps none
-  pub fronts_on : (old mid new : D) (d : Device) (records : List Record) → LeavesPrefixes may_leave moment left_since old mid d [] →
+  pub prefixes_on : (old mid new : D) (d : Device) (records : List Record) → LeavesPrefixes may_leave moment left_since old mid d [] →
       LeavesPrefixes may_leave moment left_since mid new d records
       → LeavesPrefixes may_leave moment left_since old new d records
-  fronts_on old mid new d records first second =
+  prefixes_on old mid new d records first second =
       joined laws old mid new (AllowedOrPrefix (may_leave old) d []) (AllowedOrPrefix (may_leave mid) d records) (AllowedOrPrefix (may_leave old) d records)
       first second more
-      (λ c was. ⊎_elim (λ left. more c (now laws old mid (AllowedOrPrefix (may_leave old) d []) first c left)) (λ front. inr front) was)
+      (λ c was. ⊎_elim (λ left. more c (now laws old mid (AllowedOrPrefix (may_leave old) d []) first c left)) (λ prefix. inr prefix) was)
     where
       longer : (c : Image) → StandsForPrefix slots_entries d [] c → StandsForPrefix slots_entries d records c
-      longer c h = by h.front h.split h.run
+      longer c h = by h.prefix h.split h.run
         where
-          by : (front : List Record) → [] ≡ front ++ h.rest → Run d front h.device → StandsForPrefix slots_entries d records c
-          by [] is run = none_front d records c (subst (λ (e : Device). Stands c e) run h.stands)
-          by (r ∷ front) is run = cc
+          by : (prefix : List Record) → [] ≡ prefix ++ h.rest → Run d prefix h.device → StandsForPrefix slots_entries d records c
+          by [] is run = none_prefix d records c (subst (λ (e : Device). IsImageOf c e) run h.stands)
+          by (r ∷ prefix) is run = cc
 
       more : (c : Image) → AllowedOrPrefix (may_leave old) d [] c → AllowedOrPrefix (may_leave old) d records c
-      more c was = ⊎_elim (λ left. inl left) (λ front. inr (longer c front)) was
+      more c was = ⊎_elim (λ left. inl left) (λ prefix. inr (longer c prefix)) was
 
   -- the journal does not lie among the files of artifacts
   module _ (apart : LieElsewhere slots_files) where
-    pub journal_stays : (a b : Image) → Spares (IsBelow artifacts) a b → (name : List ℕ) → slots_files name → b name ≡ a name
+    pub journal_stays : (a b : Image) → IsSameBut (IsBelow artifacts) a b → (name : List ℕ) → slots_files name → b name ≡ a name
     journal_stays a b spares name is = spares name (λ below. apart name is below)
 
-    front_stays : (d : Device) (records : List Record) (a b : Image) → Spares (IsBelow artifacts) a b → StandsForPrefix slots_entries d records a →
+    prefix_stays : (d : Device) (records : List Record) (a b : Image) → IsSameBut (IsBelow artifacts) a b → StandsForPrefix slots_entries d records a →
         StandsForPrefix slots_entries d records b
-    front_stays d records a b spares h = record {
-      front = h.front;
+    prefix_stays d records a b spares h = record {
+      prefix = h.prefix;
       rest = h.rest;
       split = h.split;
       device = h.device;
@@ -189,12 +189,13 @@ module _ {D : Type 0} {is_modelled : Bool} {seen : D → Image} {may_leave : D �
     }
 
     -- the journal is opened, and stray files are swept
-    pub opened_same : (old opened new : D) (s : Loaded Slots) → Leaves moment left_since old opened (may_leave old) →
-        (IsTrue is_modelled → Stands (seen old) (loaded_device s))
+    pub opened_same : (old opened new : D) (s : Loaded Slots) → HasLeft moment left_since old opened (may_leave old) →
+        (IsTrue is_modelled → IsImageOf (seen old) (loaded_device s))
         → OwnsLoaded is_modelled may_leave slots_stands (λ log. log.live.end) s opened → ChangesArtifactsAlone may_leave moment left_since opened new →
         LeavesSame may_leave moment left_since seen old new
     opened_same old opened new s opening stands held spared =
-        joined laws old opened new (may_leave old) (After (may_leave opened) (Spares (IsBelow artifacts))) (AllowedOrSame (may_leave old) (seen old)) opening
+        joined laws old opened new (may_leave old) (IsAfter (may_leave opened) (IsSameBut (IsBelow artifacts)))
+        (AllowedOrSame (may_leave old) (seen old)) opening
         spared
         (λ c left. inl left)
         (λ c was. inr (
@@ -208,37 +209,37 @@ module _ {D : Type 0} {is_modelled : Bool} {seen : D → Image} {may_leave : D �
     pub opened_says : (old opened new : D) → seen opened ≡ seen old → AreSettled seen may_leave slots_files opened →
         ChangesArtifactsAlone may_leave moment left_since opened new → KeepsJournal may_leave seen old new
     opened_says old opened new same settled spared c left =
-        let was = now laws opened new (After (may_leave opened) (Spares (IsBelow artifacts))) spared c left in
+        let was = now laws opened new (IsAfter (may_leave opened) (IsSameBut (IsBelow artifacts))) spared c left in
         says_same (seen old) c (λ name is. journal_stays was.0 c was.2 name is ∙ settled name is was.0 was.1 ∙ ap (λ (i : Image). i name) same)
 
-    -- a call that changes files of artifacts alone, where each image stands for a front already
-    spared_fronts : (old new : D) (d : Device) (records : List Record) → ((c : Image) → may_leave old c → StandsForPrefix slots_entries d records c) →
+    -- a call that changes files of artifacts alone, where each image stands for a prefix already
+    spared_prefixes : (old new : D) (d : Device) (records : List Record) → ((c : Image) → may_leave old c → StandsForPrefix slots_entries d records c) →
         ChangesArtifactsAlone may_leave moment left_since old new
-        → Leaves moment left_since old new (StandsForPrefix slots_entries d records)
-    spared_fronts old new d records stands spared =
-        weaker laws old new (After (may_leave old) (Spares (IsBelow artifacts))) (StandsForPrefix slots_entries d records)
-        (λ c was. front_stays d records was.0 c was.2 (stands was.0 was.1)) spared
+        → HasLeft moment left_since old new (StandsForPrefix slots_entries d records)
+    spared_prefixes old new d records stands spared =
+        weaker laws old new (IsAfter (may_leave old) (IsSameBut (IsBelow artifacts))) (StandsForPrefix slots_entries d records)
+        (λ c was. prefix_stays d records was.0 c was.2 (stands was.0 was.1)) spared
 
     -- one deployment, in a call that begins with the device in hand
     module _ (old new : D) (old_list new_list : Option (List RunnerEntry)) (old_held new_held : Option (List ℕ)) (p : SessionState) (status : Status)
-        (stands : (c : Image) → may_leave old c → Stands c p.device) where
+        (stands : (c : Image) → may_leave old c → IsImageOf c p.device) where
       abbrev IsCall : Type 0
       IsCall = Call slots_entries slots_files may_leave moment left_since old new old_list new_list old_held new_held p status
 
-      before_fronts : (records : List Record) (from : D) → ChangesArtifactsAlone may_leave moment left_since old from →
-          Leaves moment left_since old from (StandsForPrefix slots_entries p.device records)
-      before_fronts records from spared = spared_fronts old from p.device records (λ c left. none_front p.device records c (stands c left)) spared
+      before_prefixes : (records : List Record) (from : D) → ChangesArtifactsAlone may_leave moment left_since old from →
+          HasLeft moment left_since old from (StandsForPrefix slots_entries p.device records)
+      before_prefixes records from spared = spared_prefixes old from p.device records (λ c left. none_prefix p.device records c (stands c left)) spared
 
-      call_fronts : (call : IsCall) → Leaves moment left_since old new (StandsForPrefix slots_entries p.device (records_of call.history))
-      call_fronts call =
+      call_prefixes : (call : IsCall) → HasLeft moment left_since old new (StandsForPrefix slots_entries p.device (records_of call.history))
+      call_prefixes call =
           let records = records_of call.history in
-          let front = StandsForPrefix slots_entries p.device records in
-          let before : Leaves moment left_since old call.from front = before_fronts records call.from call.before in
-          let trace : Leaves moment left_since call.from call.to front = weaker laws call.from call.to _ front (λ c was. was.2.here) call.trace.course in
-          let after : Leaves moment left_since call.to new front = spared_fronts call.to new p.device records (now laws call.from call.to front trace)
+          let prefix = StandsForPrefix slots_entries p.device records in
+          let before : HasLeft moment left_since old call.from prefix = before_prefixes records call.from call.before in
+          let trace : HasLeft moment left_since call.from call.to prefix = weaker laws call.from call.to _ prefix (λ c was. was.2.here) call.trace.course in
+          let after : HasLeft moment left_since call.to new prefix = spared_prefixes call.to new p.device records (now laws call.from call.to prefix trace)
           call.after in
-          joined laws old call.to new front front front (joined laws old call.from call.to front front front before trace (λ c h. h) (λ c h. h)) after
+          joined laws old call.to new prefix prefix prefix (joined laws old call.from call.to prefix prefix prefix before trace (λ c h. h) (λ c h. h)) after
           (λ c h. h) (λ c h. h)
 
-      pub kept_fronts : (call : IsCall) → LeavesPrefixes may_leave moment left_since old new p.device (records_of call.history)
-      kept_fronts call = weaker laws old new _ _ (λ c h. inr h) (call_fronts call)
+      pub kept_prefixes : (call : IsCall) → LeavesPrefixes may_leave moment left_since old new p.device (records_of call.history)
+      kept_prefixes call = weaker laws old new _ _ (λ c h. inr h) (call_prefixes call)

@@ -21,17 +21,18 @@ use Rattle.histories.specs.States.{SessionState}
 use Rattle.histories.specs.TraceEvents.{TraceEvent}
 use Rattle.session.specs.Calls.{IsOrEdge, IsPendingAs}
 use Rattle.session.specs.Parts.{EndsCall}
-use Rattle.session_serving.specs.Documents.{EndsWith, IsDeployedThere}
+use Rattle.session_serving.specs.Documents.{IsOwnOrEdge, IsDeployedThere}
 use Rattle.session_serving.specs.Parts.{Outside}
-use Rattle.session_serving.specs.Rounds.{Handled, Last, Round}
+use Rattle.session_serving.specs.Rounds.{Handled, LastRound, Round}
 use Rattle.session_serving.specs.Rounds as last
 use Rattle.session_serving.specs.Served.{EndsAs, IsWholeCall}
 use Rattle.nucleus_top.specs.Serving.{IsServed, on_disk, slots_ghosts}
-use Rattle.session.specs.Endings.{Ending, Closes, Restarts, Reboots, Fails, Breaks, Forgets, Starves, Declines, Full, Idle, status_of_ending}
-use Rattle.nucleus_top.specs.Answers.{Store, Input, Shelf, Printed, Told, Prints, Expects, none_line, damaged_line, pending_line}
-use Rattle.nucleus_top.specs.Drives.{IsDeployed, IsResumed, PendingParts, RefusedParts, TurnsAway, MayNotOpen}
+use Rattle.session.specs.Endings.{Ending, ByClose, ByRestart, ByReboot, ByDiskFault, BySinkFault, WantAfter, WantBefore, ByDecline, Full, Idle}
+use Rattle.session.specs.Endings.{status_of_ending}
+use Rattle.nucleus_top.specs.Answers.{Store, Input, Shelf, Printed, IsPrinted, HasPrinted, IsOrFault, none_line, damaged_line, pending_line}
+use Rattle.nucleus_top.specs.Drives.{IsDeployed, IsResumed, PendingParts, RefusedParts, MayNotDeploy, MayNotOpen}
 use Rattle.nucleus_top.specs.Inits.{IsRefusedAt}
-use Rattle.nucleus_top.specs.Opening.{Stands, StandsForNone}
+use Rattle.nucleus_top.specs.Opening.{IsImageOf, StandsForNone}
 use Rattle.nucleus_top.specs.Planning.{IsFound, IsPending}
 use Rattle.nucleus_top.specs.declared.answer.Answer.{Answer}
 use Rattle.nucleus_top.specs.declared.answer.Answer.TheVariants.{Unplanned, Pending, DiskFailed, SourceFailed, NotInitialised, Damaged, NoMemory}
@@ -54,29 +55,29 @@ ends_refused status.Damaged may = absurd (false≢true may)
 ends_refused s may = refl
 
 of_ending : (e : Ending) → may_end (status_of_ending e) ≡ true
-of_ending (Closes outcome.Successful) = refl
-of_ending (Closes outcome.RollbackComplete) = refl
-of_ending (Closes outcome.RollbackNotRequested) = refl
-of_ending (Closes outcome.UnableToRollback) = refl
-of_ending (Restarts id) = refl
-of_ending (Reboots id) = refl
-of_ending Fails = refl
-of_ending Breaks = refl
-of_ending Forgets = refl
-of_ending Starves = refl
-of_ending (Declines (Refused r)) = ends_refused (status_of_refusal r) (of_refusal r)
-of_ending (Declines (Unstaged stage.Disk)) = refl
-of_ending (Declines (Unstaged stage.Library)) = refl
-of_ending (Declines (Unstaged (stage.Missing file))) = refl
-of_ending (Declines (Unstaged (stage.TooLarge file bytes))) = refl
-of_ending (Declines (Unstaged (stage.Mismatch file digest))) = refl
-of_ending (Declines (Unstaged stage.NoMemory)) = refl
-of_ending (Declines (Unasked (unasked.Local fault))) = refl
-of_ending (Declines (Unasked (unasked.NotLocal name))) = refl
-of_ending (Declines (Unasked (unasked.TooManyLocal count))) = refl
-of_ending (Declines (Unasked (unasked.Unlisted name))) = refl
-of_ending (Declines (Unasked (unasked.NoComponent name))) = refl
-of_ending (Declines (Unasked (unasked.NotListed name))) = refl
+of_ending (ByClose outcome.Successful) = refl
+of_ending (ByClose outcome.RollbackComplete) = refl
+of_ending (ByClose outcome.RollbackNotRequested) = refl
+of_ending (ByClose outcome.UnableToRollback) = refl
+of_ending (ByRestart id) = refl
+of_ending (ByReboot id) = refl
+of_ending ByDiskFault = refl
+of_ending BySinkFault = refl
+of_ending WantAfter = refl
+of_ending WantBefore = refl
+of_ending (ByDecline (Refused r)) = ends_refused (status_of_refusal r) (of_refusal r)
+of_ending (ByDecline (Unstaged stage.Disk)) = refl
+of_ending (ByDecline (Unstaged stage.Library)) = refl
+of_ending (ByDecline (Unstaged (stage.Missing file))) = refl
+of_ending (ByDecline (Unstaged (stage.TooLarge file bytes))) = refl
+of_ending (ByDecline (Unstaged (stage.Mismatch file digest))) = refl
+of_ending (ByDecline (Unstaged stage.NoMemory)) = refl
+of_ending (ByDecline (Unasked (unasked.Local fault))) = refl
+of_ending (ByDecline (Unasked (unasked.NotLocal name))) = refl
+of_ending (ByDecline (Unasked (unasked.TooManyLocal count))) = refl
+of_ending (ByDecline (Unasked (unasked.Unlisted name))) = refl
+of_ending (ByDecline (Unasked (unasked.NoComponent name))) = refl
+of_ending (ByDecline (Unasked (unasked.NotListed name))) = refl
 of_ending (Full at) = refl
 of_ending Idle = refl
 
@@ -117,18 +118,18 @@ ends_call status.NotInitialised ends = absurd (⊎_elim (λ is. false≢true is)
 ends_call status.Damaged ends = absurd (⊎_elim (λ is. false≢true is) (λ is. false≢true is) ends)
 ends_call s ends = refl
 
-ends_with : (own s : Status) → EndsWith own s → may_end s ≡ true
+ends_with : (own s : Status) → IsOwnOrEdge own s → may_end s ≡ true
 ends_with own s (inl is) = ap may_end is.0 ∙ ends_call own is.1
 ends_with own s (inr is) = ap may_end is
 
 -- and one with which a call ends that serves
 module _ {D : Type 0} (Clause : Handled → Type 0) (most : ℕ) (rounds : List Round) (s : Status) (old new : Outside D) (d : Device) where
-  ends_as : (last : Last) → EndsAs Clause most rounds last s old new d → may_end s ≡ true
+  ends_as : (last : LastRound) → EndsAs Clause most rounds last s old new d → may_end s ≡ true
   ends_as last.Spent why = ⊎_elim (λ is. ap may_end is) (λ is. ap may_end is) why.1
   ends_as last.Shut why = ap may_end why.0
-  ends_as (last.Stops x) why = ends_with x.status s why.with_status
-  ends_as last.Fails why = ap may_end why.0
-  ends_as last.Starves why = ap may_end why.0
+  ends_as (last.StoppedBy x) why = ends_with x.status s why.with_status
+  ends_as last.InboxFailed why = ap may_end why.0
+  ends_as last.WantOfMemory why = ap may_end why.0
 
 module _ {D : Type 0} (disk : a_disk.Ghosts D) (content : Option Content) (old new : Outside D) (result : Status) where
   whole_ends : (most : ℕ) (from : Outside D) (p : SessionState) (h : List TraceEvent)
@@ -141,29 +142,29 @@ module _ {D : Type 0} (disk : a_disk.Ghosts D) (content : Option Content) (old n
   served_is_on store turns served = record {
     device = served.0;
     found = served.1;
-    ends = whole_ends turns (on_disk served.2.from old) served.2.place served.2.history served.2.call;
+    ends = whole_ends turns (on_disk served.2.from old) served.2.state served.2.history served.2.call;
   }
 
--- ---- a call that is turned away
+-- ---- a call that is refused
 
-abbrev pub IsTold : Store → Input → Printed → Status → Type 0
-IsTold store input printed result = (a : Answer) × TurnsAway store input a × Told printed result a
+abbrev pub IsTurnedAway : Store → Input → Printed → Status → Type 0
+IsTurnedAway store input printed result = (a : Answer) × MayNotDeploy store input a × IsPrinted printed result a
 
-pub withholds_turns : (store : Store) (input : Input) (a : Answer) → MayNotOpen store a → TurnsAway store input a
-withholds_turns store input (Pending id) why = absurd why
-withholds_turns store input SourceFailed why = absurd why
-withholds_turns store input a why = why
+pub withholds_refused : (store : Store) (input : Input) (a : Answer) → MayNotOpen store a → MayNotDeploy store input a
+withholds_refused store input (Pending id) why = absurd why
+withholds_refused store input SourceFailed why = absurd why
+withholds_refused store input a why = why
 
 module _ (store : Store) (input : Input) (printed : Printed) (result : Status) where
-  none : (a : Answer) → TurnsAway store input a → Told printed result a → result ≡ status.NotInitialised →
-      (IsTrue store.is_modelled → slots_none store.before) × Prints printed none_line
+  none : (a : Answer) → MayNotDeploy store input a → IsPrinted printed result a → result ≡ status.NotInitialised →
+      (IsTrue store.is_modelled → slots_none store.before) × HasPrinted printed none_line
   none NotInitialised why (inl told) is = (why.1, told.1)
   none (Unplanned r text) why (inl told) is = absurd why
   none a why (inl told) is = cc
   none a why (inr told) is = cc
 
-  none_comes : (a : Answer) → TurnsAway store input a → Told printed result a → IsTrue store.is_modelled → slots_none store.before →
-      Expects result status.NotInitialised
+  none_comes : (a : Answer) → MayNotDeploy store input a → IsPrinted printed result a → IsTrue store.is_modelled → slots_none store.before →
+      IsOrFault result status.NotInitialised
   none_comes a why (inr told) is_modelled holds_none = inr (inr (inl told.0))
   none_comes DiskFailed why (inl told) is_modelled holds_none = inl told.0
   none_comes SourceFailed why (inl told) is_modelled holds_none = inr (inr (inl told.0))
@@ -173,15 +174,15 @@ module _ (store : Store) (input : Input) (printed : Printed) (result : Status) w
   none_comes (Pending id) why (inl told) is_modelled holds_none = absurd ((why.0.1 is_modelled).0 holds_none)
   none_comes a why (inl told) is_modelled holds_none = absurd why
 
-  damaged : (a : Answer) → TurnsAway store input a → Told printed result a → result ≡ status.Damaged → (place : List ℕ) × IsRefusedAt store place ×
-      Prints printed (damaged_line place)
+  damaged : (a : Answer) → MayNotDeploy store input a → IsPrinted printed result a → result ≡ status.Damaged → (place : List ℕ) × IsRefusedAt store place ×
+      HasPrinted printed (damaged_line place)
   damaged (Damaged place) why (inl told) is = (place, why, told.1)
   damaged (Unplanned r text) why (inl told) is = absurd why
   damaged a why (inl told) is = cc
   damaged a why (inr told) is = cc
 
-  damaged_comes : (a : Answer) → TurnsAway store input a → Told printed result a → IsTrue store.is_modelled → StandsForNone store.before →
-      Expects result status.Damaged
+  damaged_comes : (a : Answer) → MayNotDeploy store input a → IsPrinted printed result a → IsTrue store.is_modelled → StandsForNone store.before →
+      IsOrFault result status.Damaged
   damaged_comes a why (inr told) is_modelled refuses = inr (inr (inl told.0))
   damaged_comes DiskFailed why (inl told) is_modelled refuses = inl told.0
   damaged_comes SourceFailed why (inl told) is_modelled refuses = inr (inr (inl told.0))
@@ -198,28 +199,28 @@ module _ (store : Store) (input : Input) (printed : Printed) (result : Status) w
       by None same none = absurd none
       by (Some q) same named = record { some = (found is_modelled).0; device = d; stands = (found is_modelled).1; plan = q; pending = same; id_is = sym named }
 
-  pending : (a : Answer) → TurnsAway store input a → Told printed result a → result ≡ status.PendingStands
-      → (id : List ℕ) × (IsTrue store.is_modelled → IsPending store.before id) × (input.rest ≡ input.document) × Prints printed (pending_line id)
+  pending : (a : Answer) → MayNotDeploy store input a → IsPrinted printed result a → result ≡ status.PendingStands
+      → (id : List ℕ) × (IsTrue store.is_modelled → IsPending store.before id) × (input.rest ≡ input.document) × HasPrinted printed (pending_line id)
   pending (Pending id) why (inl told) is = (id, pending_in why.0.0 id why.0.1 why.0.2, why.1, told.1)
   pending (Unplanned r text) why (inl told) is = absurd why
   pending a why (inl told) is = cc
   pending a why (inr told) is = cc
 
   -- a device without a pending deployment is not the one that the journal stands for
-  busy : (d e : Device) (q : PendingPlan) → IsTrue store.is_modelled → IsFound store e → e.pending ≡ None → Stands store.before d → d.pending ≡ Some q → ⊥
+  busy : (d e : Device) (q : PendingPlan) → IsTrue store.is_modelled → IsFound store e → e.pending ≡ None → IsImageOf store.before d → d.pending ≡ Some q → ⊥
   busy d e q is_modelled found idle stands is =
       let same : d ≡ e = same_device store.before d e stands (found is_modelled).1 in
       let none : d.pending ≡ None = ap (λ (x : Device). x.pending) same ∙ idle in
       let clash : None ≡ Some q = sym none ∙ is in cc
 
   -- nor is the one before its first record
-  pub busy_none : (d : Device) (q : PendingPlan) → slots_none store.before → Stands store.before d → d.pending ≡ Some q → ⊥
+  pub busy_none : (d : Device) (q : PendingPlan) → slots_none store.before → IsImageOf store.before d → d.pending ≡ Some q → ⊥
   busy_none d q holds_none stands is =
       let same : d ≡ no_device = same_device store.before d no_device stands (none_stands store.before holds_none) in
       let clash : None ≡ Some q = sym (ap (λ (x : Device). x.pending) same) ∙ is in cc
 
-  pending_comes : (a : Answer) → TurnsAway store input a → Told printed result a → IsTrue store.is_modelled → (d : Device) → Stands store.before d
-      → (q : PendingPlan) → d.pending ≡ Some q → Expects result status.PendingStands
+  pending_comes : (a : Answer) → MayNotDeploy store input a → IsPrinted printed result a → IsTrue store.is_modelled → (d : Device) → IsImageOf store.before d
+      → (q : PendingPlan) → d.pending ≡ Some q → IsOrFault result status.PendingStands
   pending_comes a why (inr told) is_modelled d stands q is = inr (inr (inl told.0))
   pending_comes DiskFailed why (inl told) is_modelled d stands q is = inl told.0
   pending_comes SourceFailed why (inl told) is_modelled d stands q is = inr (inr (inl told.0))
@@ -234,7 +235,7 @@ module _ (store : Store) (input : Input) (printed : Printed) (result : Status) w
   other : (s : Status) → may_end s ≡ false → may_end result ≡ true → result ≡ s → ⊥
   other s never ends is = true≢false (sym ends ∙ ap may_end is ∙ never)
 
-  pub refused_parts : IsTold store input printed result ⊎ IsOn store result → RefusedParts store printed result
+  pub refused_parts : IsTurnedAway store input printed result ⊎ IsOn store result → RefusedParts store printed result
   refused_parts (inl away) = record {
     none = none away.0 away.1 away.2;
     none_comes = none_comes away.0 away.1 away.2;
@@ -248,7 +249,8 @@ module _ (store : Store) (input : Input) (printed : Printed) (result : Status) w
     damaged_comes = λ is_modelled refuses. absurd (refuses on.device (on.found is_modelled).1);
   }
 
-  pub pending_parts : IsTold store input printed result ⊎ ((on : IsOn store result) × (on.device.pending ≡ None)) → PendingParts store input printed result
+  pub pending_parts : IsTurnedAway store input printed result ⊎ ((on : IsOn store result) × (on.device.pending ≡ None)) →
+      PendingParts store input printed result
   pending_parts (inl away) = record { pending = pending away.0 away.1 away.2; pending_comes = pending_comes away.0 away.1 away.2 }
   pending_parts (inr on) = record {
     pending = λ is. absurd (other status.PendingStands refl on.0.ends is);
@@ -256,6 +258,6 @@ module _ (store : Store) (input : Input) (printed : Printed) (result : Status) w
   }
 
 -- nothing is done where memory for the words is refused
-pub starved : (store : Store) (input : Input) (printed : Printed) → TurnsAway store input NoMemory → Told printed status.Memory NoMemory →
-    IsTold store input printed status.Memory
+pub starved : (store : Store) (input : Input) (printed : Printed) → MayNotDeploy store input NoMemory → IsPrinted printed status.Memory NoMemory →
+    IsTurnedAway store input printed status.Memory
 starved store input printed why told = (NoMemory, why, told)

@@ -14,9 +14,9 @@ use Rattle.command_words.specs.declared.order.Order.{Order}
 use Rattle.command_words.specs.declared.order.Order.TheVariants as orders
 use Rattle.edges.specs.declared.source.ReadFault.{ReadFault}
 use Rattle.edges.specs.declared.source.ReadFault.TheVariants as reading
-use Rattle.disk_model.specs.Disk.{After, Image, DiskLaws, Leaves}
+use Rattle.disk_model.specs.Disk.{IsAfter, Image, DiskLaws, HasLeft}
 use Rattle.disk_model.specs.Listing.{artifacts, IsBelow}
-use Rattle.disk_model.specs.Spares.{Spares}
+use Rattle.disk_model.specs.Spares.{IsSameBut}
 use Rattle.disk_model.specs.Moments.{at_start, none_spares, then_spares, weaker}
 use Rattle.gate_log.specs.Journal.{JournalLaws}
 use Rattle.checkpoint_log.specs.Beginnings.{FirstSays}
@@ -37,15 +37,15 @@ use Rattle.deploy_state.specs.declared.state.Loaded.TheVariants as loaded
 use Rattle.artifact_store.specs.Laws.{JournalsLieElsewhere}
 use Rattle.artifact_store.specs.declared.fault.SweepFault.{SweepFault}
 use Rattle.artifact_store.specs.declared.fault.SweepFault.TheVariants as sweep
-use Rattle.step_runner.specs.Entries.{Told as Heard}
+use Rattle.step_runner.specs.Entries.{Told}
 use Rattle.step_runner.specs.declared.entries.RunnerEntry.{RunnerEntry}
 use Rattle.components.specs.Components.{Components}
-use Rattle.histories.specs.Courses.{Stands}
+use Rattle.histories.specs.Courses.{IsStateOf}
 use Rattle.histories.specs.TraceEvents.{TraceEvent, records_of}
-use Rattle.histories.specs.Follows.{Lives}
+use Rattle.histories.specs.Follows.{IsLiving}
 use Rattle.histories.specs.States.{SessionState, beginning}
 use Rattle.session_boots.specs.Stands.{IsAtBootStage}
-use Rattle.admission.specs.Requests.{Makes, Requests, TakesBy, TakesMade}
+use Rattle.admission.specs.Requests.{AnswerOfAsk, AskOutcome, TakesBy, TakesMade}
 use Rattle.admission.specs.Takes.{LieElsewhere}
 use Rattle.admission.specs.declared.ask.Ask.{Ask}
 use Rattle.admission.specs.declared.ask.Ask.TheVariants as ask
@@ -54,30 +54,30 @@ use Rattle.admission.specs.declared.fault.Declined.TheVariants.{Refused}
 use Rattle.plan_core.specs.declared.fault.Refusal.TheVariants as refusal
 use Rattle.admission.proofs.Staying.{hand_stays}
 use Rattle.session_admission.specs.Accepts.{IsOpen}
-use Rattle.session.specs.Calls.{Call, IsOrEdge, ChangesArtifactsAlone, Stays}
+use Rattle.session.specs.Calls.{Call, IsOrEdge, ChangesArtifactsAlone, HasNotFallen}
 use Rattle.session.specs.Documents.{DrivesTaken}
 use Rattle.deployment_doc.specs.declared.document.Document.{Document}
 use Rattle.session.specs.Sweeping.{LeavesNoStray}
 use Rattle.session.proofs.Accepted.{takes_behind}
 use Rattle.session.proofs.Sweeping.{never_closes}
-use Rattle.nucleus_top.specs.Answers.{HasRisen, Input, IsUnchanged, Printed, Prints, Shelf, Store, Told, status_of}
-use Rattle.nucleus_top.specs.Asked.{AsksFor, asked_of}
+use Rattle.nucleus_top.specs.Answers.{HasRisen, Input, IsUnchanged, Printed, HasPrinted, Shelf, Store, IsPrinted, status_of}
+use Rattle.nucleus_top.specs.Asked.{AreWordsFor, asked_of}
 use Rattle.nucleus_top.specs.Crashes.{KeepsJournal, KeepsSameWhole, LeavesPrefixes, LeavesSame}
-use Rattle.nucleus_top.specs.Drives.{AsksTo, DeploysOn, AsksToServe, DeploysOver, DriveParts, Drives, DrivesOne, Serves}
-use Rattle.nucleus_top.specs.Drives.{GoesUnread, IsDeployed, IsDeployedOn, IsDrivenOn, IsMade, IsResumedOn, IsRefusedBefore}
+use Rattle.nucleus_top.specs.Drives.{AsksTo, IsInputDeployed, AsksToServe, AsksWithLibrary, DriveParts, AsksToDrive, AsksToDriveOne, AsksToServeTurns}
+use Rattle.nucleus_top.specs.Drives.{MayNotRead, IsDeployed, IsDeployedOn, IsDrivenOn, IsMade, IsResumedOn, IsRefusedBefore}
 use Rattle.nucleus_top.specs.Drives.{IsUnread, IsUnswept, ask_of, shelf_for}
-use Rattle.nucleus_top.specs.Drives.{NamesPendingOf, StartsFrom, TellsSweep, TellsUnread, TurnsAway, MayNotOpen, MayNotOpenIdle, slots_start}
-use Rattle.nucleus_top.specs.Opening.{HasEntry, Stands as StandsFor}
+use Rattle.nucleus_top.specs.Drives.{NamesPendingOf, StartsFrom, TellsSweep, TellsUnread, MayNotDeploy, MayNotOpen, MayNotOpenIdle, slots_start}
+use Rattle.nucleus_top.specs.Opening.{HasEntry, IsImageOf}
 use Rattle.nucleus_top.specs.Parts.{Parts}
 use Rattle.nucleus_top.specs.Planning.{IsFound, NamesPending}
-use Rattle.nucleus_top.specs.Refusing.{Refuses, TellsFault}
-use Rattle.nucleus_top.specs.Words.{Asks, DrivesNone}
+use Rattle.nucleus_top.specs.Refusing.{NoDeviceAnswer, TellsFault}
+use Rattle.nucleus_top.specs.Words.{AsksOrder, DrivesNone}
 use Rattle.nucleus_top.specs.declared.answer.Answer.{Answer}
 use Rattle.nucleus_top.specs.declared.asking.Asked.{Asked}
 use Rattle.nucleus_top.specs.declared.answer.Answer.TheVariants.{Damaged, DiskFailed, NoMemory, NotInitialised, Pending, SourceFailed}
-use Rattle.nucleus_top.proofs.Crashes.{fronts_on, same_fronts}
+use Rattle.nucleus_top.proofs.Crashes.{prefixes_on, same_prefixes}
 use Rattle.nucleus_top.proofs.Ends.{parts}
-use Rattle.nucleus_top.proofs.Fronts.{front_asks}
+use Rattle.nucleus_top.proofs.LongTexts.{prefix_asks}
 use Rattle.nucleus_top.proofs.Standing.{none_of}
 use Rattle.nucleus_top.proofs.Whole.{whole_on}
 
@@ -110,7 +110,7 @@ module _ (store : Store) where
   idle_refusal a why = inl (withheld_first a why)
 
   -- a journal that gives no device
-  pub refused_withholds : (a : Answer) → Refuses store a → MayNotOpen store a
+  pub refused_withholds : (a : Answer) → NoDeviceAnswer store a → MayNotOpen store a
   refused_withholds DiskFailed why = inl why
   refused_withholds NotInitialised why = why
   refused_withholds (Damaged place) why = why
@@ -121,10 +121,10 @@ module _ (store : Store) where
   withholds_idle (Pending id) why = absurd why
   withholds_idle a why = why
 
-  pub idle_turns : (input : Input) (a : Answer) → input.rest ≡ input.document → MayNotOpenIdle store a → TurnsAway store input a
-  idle_turns input (Pending id) same why = (why, same)
-  idle_turns input SourceFailed same why = absurd why
-  idle_turns input a same why = why
+  pub idle_refused : (input : Input) (a : Answer) → input.rest ≡ input.document → MayNotOpenIdle store a → MayNotDeploy store input a
+  idle_refused input (Pending id) same why = (why, same)
+  idle_refused input SourceFailed same why = absurd why
+  idle_refused input a same why = why
 
   -- of a device that is there
   module _ (d : Device) (found : IsFound store d) where
@@ -142,10 +142,10 @@ module _ (store : Store) where
     pending_withholds (Err NoMemory) names swept = inr (d, found)
     pending_withholds (Err a) names swept = absurd names
 
-    pub unread_turns : (input : Input) (a : Answer) → d.pending ≡ None → GoesUnread input a → TurnsAway store input a
-    unread_turns input SourceFailed idle why = ((d, found, idle), why)
-    unread_turns input NoMemory idle why = inr (d, found)
-    unread_turns input a idle why = absurd why
+    pub unread_refused : (input : Input) (a : Answer) → d.pending ≡ None → MayNotRead input a → MayNotDeploy store input a
+    unread_refused input SourceFailed idle why = ((d, found, idle), why)
+    unread_refused input NoMemory idle why = inr (d, found)
+    unread_refused input a idle why = absurd why
 
 -- the deployment that is pending
 pub names_pending : (d : Device) (q : PendingPlan) (a : Answer) → d.pending ≡ Some q → NamesPending q.plan.id a → NamesPendingOf d a
@@ -154,7 +154,7 @@ names_pending d q NoMemory is names = tt
 names_pending d q a is names = absurd names
 
 pub unread_goes : (input : Input) (f : ReadFault) (a : Answer) → TellsUnread f a → (f ≡ reading.Edge → Rose input.faults_before input.faults_after) →
-    GoesUnread input a
+    MayNotRead input a
 unread_goes input reading.Edge SourceFailed tells rose = rose refl
 unread_goes input reading.NoMemory NoMemory tells rose = tt
 unread_goes input f a tells rose = absurd tells
@@ -191,10 +191,10 @@ first_by gives (inr b) = inr b
 
 -- ---- counts
 
-pub stays : (old new : ℕ) → old ≤ new → Stays old new
+pub stays : (old new : ℕ) → old ≤ new → HasNotFallen old new
 stays old new later = omega (arith, later)
 
-pub stays_on : (old mid new : ℕ) → old ≤ mid → Stays mid new → Stays old new
+pub stays_on : (old mid new : ℕ) → old ≤ mid → HasNotFallen mid new → HasNotFallen old new
 stays_on old mid new first second = omega (arith, first, second)
 
 -- ---- such an answer told
@@ -237,7 +237,7 @@ pub record Tells (printed : Printed) (result : Status) (a : Answer) : Type 0 whe
   pub quiet : result ≢ status.Disk → result ≢ status.Edge → a ≢ DiskFailed
   pub quiet_sink : result ≢ status.Edge → printed.faults_after ≡ printed.faults_before
 
-pub tells : (printed : Printed) (result : Status) (a : Answer) → IsFirst a ⊎ IsPending a → Told printed result a → Tells printed result a
+pub tells : (printed : Printed) (result : Status) (a : Answer) → IsFirst a ⊎ IsPending a → IsPrinted printed result a → Tells printed result a
 tells printed result a is (inl told) = record {
   disk = λ same. refusal_disk a is (sym told.0 ∙ same);
   edge = λ same. absurd (refusal_edge a is (sym told.0 ∙ same));
@@ -255,11 +255,11 @@ tells printed result a is (inr told) = record {
 
 -- its status is that of no close
 module _ (is_modelled : Bool) (printed : Printed) (result : Status) (image : Image) where
-  told_or_edge : (a : Answer) → Told printed result a → IsOrEdge result (status_of a)
+  told_or_edge : (a : Answer) → IsPrinted printed result a → IsOrEdge result (status_of a)
   told_or_edge a (inl told) = inl told.0
   told_or_edge a (inr told) = inr told.0
 
-  pub told_sweeps : (a : Answer) → IsFirst a ⊎ IsPending a → Told printed result a → LeavesNoStray is_modelled slots_entries result image
+  pub told_sweeps : (a : Answer) → IsFirst a ⊎ IsPending a → IsPrinted printed result a → LeavesNoStray is_modelled slots_entries result image
   told_sweeps DiskFailed is told = never_closes is_modelled slots_entries result status.Disk image refl (told_or_edge DiskFailed told)
   told_sweeps NotInitialised is told = never_closes is_modelled slots_entries result status.NotInitialised image refl (told_or_edge NotInitialised told)
   told_sweeps (Damaged place) is told = never_closes is_modelled slots_entries result status.Damaged image refl (told_or_edge (Damaged place) told)
@@ -276,7 +276,7 @@ pub record TellsNone (f : ReadFault) (printed : Printed) (result : Status) : Typ
   pub quiet : result ≢ status.Edge → f ≢ reading.Edge
   pub quiet_sink : result ≢ status.Edge → printed.faults_after ≡ printed.faults_before
 
-pub tells_none : (printed : Printed) (result : Status) (f : ReadFault) (a : Answer) → TellsUnread f a → Told printed result a → TellsNone f printed result
+pub tells_none : (printed : Printed) (result : Status) (f : ReadFault) (a : Answer) → TellsUnread f a → IsPrinted printed result a → TellsNone f printed result
 tells_none printed result f a is (inr told) = record {
   disk = λ same. cc;
   edge = λ same. inr told.1.rose;
@@ -400,7 +400,7 @@ module _ {D : Type 0} (may_leave : D → Image → Type 0) (moment : D → ℕ) 
   pub deployed_as : IsDeployedOn may_leave moment left_since faults old new old_list new_list printed result d start library first
       → IsDeployedOn may_leave moment left_since faults old new old_list new_list printed result d start library second
   deployed_as h = record {
-    place = h.place;
+    state = h.state;
     serves = h.serves;
     idle = h.idle;
     origin = h.origin;
@@ -423,20 +423,20 @@ made_takes d origin content before after (Ok document) taken takes = inr (inr (d
 made_takes d origin content before after (Err x) taken takes = inr (inl (x, refl, takes))
 
 -- the document to which a request came
-pub made_asks : (what : Ask) (bytes : List ℕ) (d : Device) (made : Result Document Declined) → Makes what bytes d made → (r : Result Document Declined)
-    → IsMade made d r → (r ≡ Err (Refused refusal.NoMemory)) ⊎ Requests what bytes d r
-made_asks what bytes d made makes r is = subst (λ (x : Result Document Declined). Makes what bytes d x) (sym is) makes
+pub made_asks : (what : Ask) (bytes : List ℕ) (d : Device) (made : Result Document Declined) → AnswerOfAsk what bytes d made → (r : Result Document Declined)
+    → IsMade made d r → (r ≡ Err (Refused refusal.NoMemory)) ⊎ AskOutcome what bytes d r
+made_asks what bytes d made makes r is = subst (λ (x : Result Document Declined). AnswerOfAsk what bytes d x) (sym is) makes
 
 -- what bytes ask, over the library over which that is deployed
 module _ {D : Type 0} (may_leave : D → Image → Type 0) (moment : D → ℕ) (left_since : D → ℕ → Image → Type 0) (faults : D → ℕ) (old new : D)
     (old_list new_list : Option (List RunnerEntry)) (printed : Printed) (result : Status) (d : Device) (start : ℕ → ℕ) where
-  pub bytes_deployed : (what : Ask) (bytes : List ℕ) (made : Result Document Declined) → Makes what bytes d made → (shelf over : Shelf)
+  pub bytes_deployed : (what : Ask) (bytes : List ℕ) (made : Result Document Declined) → AnswerOfAsk what bytes d made → (shelf over : Shelf)
       → shelf_for what shelf ≡ over
       → IsDeployedOn may_leave moment left_since faults old new old_list new_list printed result d start over (IsMade made)
-      → IsDeployedOn may_leave moment left_since faults old new old_list new_list printed result d start (shelf_for what shelf) (Requests what bytes)
+      → IsDeployedOn may_leave moment left_since faults old new old_list new_list printed result d start (shelf_for what shelf) (AskOutcome what bytes)
   bytes_deployed what bytes made makes shelf over is h =
-      subst (λ (l : Shelf). IsDeployedOn may_leave moment left_since faults old new old_list new_list printed result d start l (Requests what bytes)) (sym is)
-      (deployed_as may_leave moment left_since faults old new old_list new_list printed result d start over (IsMade made) (Requests what bytes)
+      subst (λ (l : Shelf). IsDeployedOn may_leave moment left_since faults old new old_list new_list printed result d start l (AskOutcome what bytes)) (sym is)
+      (deployed_as may_leave moment left_since faults old new old_list new_list printed result d start over (IsMade made) (AskOutcome what bytes)
       (made_asks what bytes d made makes) h)
 
 -- what is no change of a configuration is deployed over the library that is given
@@ -444,24 +444,24 @@ pub over_given : (what : Ask) (shelf : Shelf) → (what ≡ ask.Document) ⊎ (w
 over_given what shelf (inl is) = ap (λ (a : Ask). shelf_for a shelf) is
 over_given what shelf (inr is) = ap (λ (a : Ask). shelf_for a shelf) is
 
--- the request of the source, where its front was deployed
+-- the request of the source, where its prefix was deployed
 module _ {D : Type 0} (may_leave : D → Image → Type 0) (moment : D → ℕ) (left_since : D → ℕ → Image → Type 0) (faults : D → ℕ) (old new : D)
     (old_list new_list : Option (List RunnerEntry)) (printed : Printed) (result : Status)
-    (what : Ask) (d : Device) (start : ℕ → ℕ) (input : Input) (library : Shelf) (quiet : input.faults_after ≡ input.faults_before) (front : List ℕ) where
-  by_whole : (left : Option (List ℕ)) → input.document ≡ left → IfSome left (λ whole. front ≡ take 524289 whole)
-      → IsDeployedOn may_leave moment left_since faults old new old_list new_list printed result d start library (Requests what front)
-      → DeploysOn may_leave moment left_since faults old new old_list new_list printed result what d start input library
-  by_whole None same is h = (front, record { whole = λ whole told. cc; quiet = quiet }, h)
+    (what : Ask) (d : Device) (start : ℕ → ℕ) (input : Input) (library : Shelf) (quiet : input.faults_after ≡ input.faults_before) (prefix : List ℕ) where
+  by_whole : (left : Option (List ℕ)) → input.document ≡ left → IfSome left (λ whole. prefix ≡ take 524289 whole)
+      → IsDeployedOn may_leave moment left_since faults old new old_list new_list printed result d start library (AskOutcome what prefix)
+      → IsInputDeployed may_leave moment left_since faults old new old_list new_list printed result what d start input library
+  by_whole None same is h = (prefix, record { whole = λ whole told. cc; quiet = quiet }, h)
   by_whole (Some document) same is h = (
     document,
     record { whole = λ whole told. cc; quiet = quiet },
-    deployed_as may_leave moment left_since faults old new old_list new_list printed result d start library (Requests what front) (Requests what document)
-        (λ r asks. inr (front_asks what document front is d r asks)) h,
+    deployed_as may_leave moment left_since faults old new old_list new_list printed result d start library (AskOutcome what prefix) (AskOutcome what document)
+        (λ r asks. inr (prefix_asks what document prefix is d r asks)) h,
   )
 
-  pub document_deploys : IfSome input.document (λ whole. front ≡ take 524289 whole)
-      → IsDeployedOn may_leave moment left_since faults old new old_list new_list printed result d start library (Requests what front)
-      → DeploysOn may_leave moment left_since faults old new old_list new_list printed result what d start input library
+  pub document_deploys : IfSome input.document (λ whole. prefix ≡ take 524289 whole)
+      → IsDeployedOn may_leave moment left_since faults old new old_list new_list printed result d start library (AskOutcome what prefix)
+      → IsInputDeployed may_leave moment left_since faults old new old_list new_list printed result what d start input library
   document_deploys is h = by_whole input.document refl is h
 
 -- ---- a call begins
@@ -470,19 +470,19 @@ module _ {D : Type 0} (may_leave : D → Image → Type 0) (moment : D → ℕ) 
 abbrev pub no_world : Components
 no_world = record { parts = []; moment = 0; steady = true }
 
--- the place of a call that begins with this device and this runner
-abbrev pub begun_as : Bool → ℕ → Device → Heard → SessionState
+-- the state of a call that begins with this device and this runner
+abbrev pub begun_as : Bool → ℕ → Device → Told → SessionState
 begun_as serves turns d told = beginning serves turns d told.moment told.asked
 
-abbrev pub begun : Device → Heard → SessionState
+abbrev pub begun : Device → Told → SessionState
 begun d told = begun_as false 0 d told
 
-no_lives : (serves : Bool) (turns : ℕ) (d : Device) (told : Heard) (n : ℕ) → Lives n (begun_as serves turns d told) → ⊥
+no_lives : (serves : Bool) (turns : ℕ) (d : Device) (told : Told) (n : ℕ) → IsLiving n (begun_as serves turns d told) → ⊥
 no_lives serves turns d told n (inl some) = absurd (false≢true some)
 no_lives serves turns d told n (inr boot) = absurd boot
 
-stands_begun : (serves : Bool) (turns : ℕ) (d : Device) (told : Heard) (living : List ℕ) → living ≡ [] →
-    Stands (begun_as serves turns d told) d no_world told living
+stands_begun : (serves : Bool) (turns : ℕ) (d : Device) (told : Told) (living : List ℕ) → living ≡ [] →
+    IsStateOf (begun_as serves turns d told) d no_world told living
 stands_begun serves turns d told living none = record {
   device_is = refl;
   world_is = refl;
@@ -492,11 +492,11 @@ stands_begun serves turns d told living none = record {
   children = λ n. (λ has. absurd (in_nil n (subst (λ (xs : List ℕ). Contains xs n) none has)), λ lives. absurd (no_lives serves turns d told n lives));
 }
 
-pub open_begun : (d : Device) (world : Components) (told : Heard) (living : List ℕ) → world ≡ no_world → living ≡ [] → d.pending ≡ None →
+pub open_begun : (d : Device) (world : Components) (told : Told) (living : List ℕ) → world ≡ no_world → living ≡ [] → d.pending ≡ None →
     IsOpen (begun d told) d world told living
 open_begun d world told living is none idle = subst (λ (w : Components). IsOpen (begun d told) d w told living) (sym is) (record {
   stands = stands_begun false 0 d told living none;
-  quiet = record { told = refl; none = refl };
+  quiet = record { owes_none = refl; none = refl };
   going = refl;
   boot = refl;
   boot_end = refl;
@@ -506,13 +506,13 @@ open_begun d world told living is none idle = subst (λ (w : Components). IsOpen
 })
 
 -- it begins at the stage of its bootstraps, also where it serves
-pub begun_front : (serves : Bool) (turns : ℕ) (d : Device) (world : Components) (told : Heard) (living : List ℕ) → world ≡ no_world → living ≡ [] →
+pub begun_stage : (serves : Bool) (turns : ℕ) (d : Device) (world : Components) (told : Told) (living : List ℕ) → world ≡ no_world → living ≡ [] →
     IsAtBootStage (begun_as serves turns d told) d world told living
-begun_front serves turns d world told living is none =
+begun_stage serves turns d world told living is none =
     subst (λ (w : Components). IsAtBootStage (begun_as serves turns d told) d w told living) (sym is) (record {
       between = record {
         stands = stands_begun serves turns d told living none;
-        still = record { stopped = refl; quiet = record { told = refl; none = refl }; generation = refl; cut = refl };
+        still = record { stopped = refl; quiet = record { owes_none = refl; none = refl }; generation = refl; cut = refl };
         boot = refl;
         boot_end = refl;
         probed = refl;
@@ -520,9 +520,9 @@ begun_front serves turns d world told living is none =
       over = refl;
     })
 
-pub front_begun : (d : Device) (world : Components) (told : Heard) (living : List ℕ) → world ≡ no_world → living ≡ [] →
+pub stage_begun : (d : Device) (world : Components) (told : Told) (living : List ℕ) → world ≡ no_world → living ≡ [] →
     IsAtBootStage (begun d told) d world told living
-front_begun d world told living is none = begun_front false 0 d world told living is none
+stage_begun d world told living is none = begun_stage false 0 d world told living is none
 
 -- ---- calls one after another
 
@@ -532,7 +532,7 @@ rose_behind a b c later rose = omega (arith, later, rose)
 module _ {D : Type 0} {is_modelled : Bool} {seen : D → Image} {may_leave : D → Image → Type 0} {moment : D → ℕ} {left_since : D → ℕ → Image → Type 0}
     (laws : DiskLaws is_modelled seen may_leave moment left_since) where
   -- a call that changes nothing
-  pub same_spared : (old new : D) → Leaves moment left_since old new (may_leave old) → ChangesArtifactsAlone may_leave moment left_since old new
+  pub same_spared : (old new : D) → HasLeft moment left_since old new (may_leave old) → ChangesArtifactsAlone may_leave moment left_since old new
   same_spared old new leaves = weaker laws old new _ _ (none_spares (may_leave old) (IsBelow artifacts)) leaves
 
   -- no call
@@ -574,15 +574,15 @@ module _ {D : Type 0} {is_modelled : Bool} {seen : D → Image} {may_leave : D �
 
   module _ (old mid new : D) (first : ChangesArtifactsAlone may_leave moment left_since old mid) (old_list new_list : Option (List RunnerEntry))
       (printed : Printed) (result : Status) (faults : D → ℕ) (later : faults old ≤ faults mid) (d : Device)
-      (images : LeavesPrefixes may_leave moment left_since old mid d []) (stands : IsTrue is_modelled → StandsFor (seen old) d)
+      (images : LeavesPrefixes may_leave moment left_since old mid d []) (stands : IsTrue is_modelled → IsImageOf (seen old) d)
       (whole : KeepsSameWhole may_leave moment left_since seen old mid) where
-    pub driven_on : (place : SessionState) (history : List TraceEvent) → IsDrivenOn may_leave moment left_since mid new d place history
-        → IsDrivenOn may_leave moment left_since old new d place history
-    driven_on place history h = record {
+    pub driven_on : (state : SessionState) (history : List TraceEvent) → IsDrivenOn may_leave moment left_since mid new d state history
+        → IsDrivenOn may_leave moment left_since old new d state history
+    driven_on state history h = record {
       device_is = h.device_is;
       sound = h.sound;
       history = h.history;
-      images = fronts_on laws old mid new d (records_of history) images h.images;
+      images = prefixes_on laws old mid new d (records_of history) images h.images;
       whole = whole_on laws old mid new d (records_of history) stands whole h.whole;
       met = h.met;
       stays = h.stays;
@@ -593,20 +593,20 @@ module _ {D : Type 0} {is_modelled : Bool} {seen : D → Image} {may_leave : D �
         → IsDeployedOn may_leave moment left_since faults old new old_list new_list printed result d start library request
     unfolding taken_on call_on
     deployed_on start library request h = record {
-      place = h.place;
+      state = h.state;
       serves = h.serves;
       idle = h.idle;
       origin = h.origin;
       origin_is = h.origin_is;
       taken = h.taken;
       takes = h.takes;
-      call = taken_on old mid new first old_list new_list printed.before printed.after result h.place start h.taken h.call;
-      driven = driven_on h.place h.call.0.history h.driven;
+      call = taken_on old mid new first old_list new_list printed.before printed.after result h.state start h.taken h.call;
+      driven = driven_on h.state h.call.0.history h.driven;
       failed = λ fails. rose_behind (faults old) (faults mid) (faults new) later (h.failed fails);
       disk_cause = λ failed. rose_behind (faults old) (faults mid) (faults new) later (h.disk_cause failed);
       library_cause = h.library_cause;
       lasts = h.lasts;
-      accepts = takes_behind slots_entries laws old mid new (After (may_leave old) (Spares (IsBelow artifacts))) first d start h.taken h.call.0.ending
+      accepts = takes_behind slots_entries laws old mid new (IsAfter (may_leave old) (IsSameBut (IsBelow artifacts))) first d start h.taken h.call.0.ending
           (records_of h.call.0.history) h.accepts;
     }
 
@@ -614,11 +614,11 @@ module _ {D : Type 0} {is_modelled : Bool} {seen : D → Image} {may_leave : D �
         IsResumedOn may_leave moment left_since faults old new old_list new_list printed result d
     unfolding call_on
     resumed_on h = record {
-      place = h.place;
+      state = h.state;
       serves = h.serves;
-      call = call_on old mid new first old_list new_list printed.before printed.after result h.place h.call;
+      call = call_on old mid new first old_list new_list printed.before printed.after result h.state h.call;
       resumes = h.resumes;
-      driven = driven_on h.place h.call.history h.driven;
+      driven = driven_on h.state h.call.history h.driven;
       failed = λ fails. rose_behind (faults old) (faults mid) (faults new) later (h.failed fails);
     }
 
@@ -626,18 +626,19 @@ module _ {D : Type 0} {is_modelled : Bool} {seen : D → Image} {may_leave : D �
   pub ran_on : (old mid new : D) (first : ChangesArtifactsAlone may_leave moment left_since old mid) (old_list new_list : Option (List RunnerEntry))
       (printed : Printed) (result : Status)
       (faults : D → ℕ) (store : Store) (what : Ask) (input : Input) (library : Shelf) (d : Device) (start : ℕ → ℕ) (Same : Type 0) → faults old ≤ faults mid
-      → IsFound store d → d.pending ≡ None → (IsTrue store.is_modelled → StartsFrom store.before d start) → (IsTrue is_modelled → StandsFor (seen old) d)
+      → IsFound store d → d.pending ≡ None → (IsTrue store.is_modelled → StartsFrom store.before d start) → (IsTrue is_modelled → IsImageOf (seen old) d)
       → LeavesSame may_leave moment left_since seen old mid → KeepsSameWhole may_leave moment left_since seen old mid → KeepsJournal may_leave seen old mid
-      → (IsUnread mid new input printed result × Same) ⊎ DeploysOn may_leave moment left_since faults mid new old_list new_list printed result what d start
+      → (IsUnread mid new input printed result × Same) ⊎ IsInputDeployed may_leave moment left_since faults mid new
+      old_list new_list printed result what d start
       input (shelf_for what library)
-      → (IsRefusedBefore seen may_leave moment left_since (λ a. TurnsAway store input a) old new printed result × Same) ⊎
+      → (IsRefusedBefore seen may_leave moment left_since (λ a. MayNotDeploy store input a) old new printed result × Same) ⊎
       IsDeployed may_leave moment left_since faults old new old_list new_list printed result what store input library
   ran_on old mid new first old_list new_list printed result faults store what input library d start Same later found idle starts stands images whole ends
       (inl away) = inl (
         record {
           answer = away.0.answer;
-          why = unread_turns store d found input away.0.answer idle away.0.why;
-          told = away.0.told;
+          why = unread_refused store d found input away.0.answer idle away.0.why;
+          is_printed = away.0.is_printed;
           spared = subst (λ (x : D). ChangesArtifactsAlone may_leave moment left_since old x) (sym away.0.same) first;
           images = subst (λ (x : D). LeavesSame may_leave moment left_since seen old x) (sym away.0.same) images;
           whole = subst (λ (x : D). KeepsSameWhole may_leave moment left_since seen old x) (sym away.0.same) whole;
@@ -655,8 +656,8 @@ module _ {D : Type 0} {is_modelled : Bool} {seen : D → Image} {may_leave : D �
         (
           trace.0,
           trace.1,
-          deployed_on old mid new first old_list new_list printed result faults later d (same_fronts laws old mid d stands images) stands whole
-              start (shelf_for what library) (Requests what trace.0) trace.2,
+          deployed_on old mid new first old_list new_list printed result faults later d (same_prefixes laws old mid d stands images) stands whole
+              start (shelf_for what library) (AskOutcome what trace.0) trace.2,
         ),
       )
 
@@ -673,15 +674,15 @@ deploys_none order what asks none = absurd cc
 
 -- words that ask this command ask none that drives no deployment
 pub no_quiet : AsksOnce → (words : List (List ℕ)) (root : List ℕ) (order other : Order) → (DrivesNone other → ⊥) → IsOrder words root other →
-    Asks words order → ⊥
+    AsksOrder words order → ⊥
 no_quiet once words root order other unbuilt is asks = unbuilt (subst DrivesNone (once words asks.root root order other asks.is_order is).1 asks.drives_none)
 
 -- nor do words that ask to deploy something
-pub no_quiet_deploy : AsksOnce → (words : List (List ℕ)) (what : Ask) (order : Order) → AsksTo words what → Asks words order → ⊥
+pub no_quiet_deploy : AsksOnce → (words : List (List ℕ)) (what : Ask) (order : Order) → AsksTo words what → AsksOrder words order → ⊥
 no_quiet_deploy once words what order (root, other, is, asks) quiet = no_quiet once words root order other (λ none. deploys_none other what asks none) is quiet
 
 -- a change of a configuration leaves the library
-pub unasked_by : (words : List (List ℕ)) (what : Ask) → AsksTo words what → (DeploysOver words → ⊥) → (Same : Type 0)
+pub unasked_by : (words : List (List ℕ)) (what : Ask) → AsksTo words what → (AsksWithLibrary words → ⊥) → (Same : Type 0)
     → ((name : List ℕ) → what ≡ ask.Change name → Same) → Same
 unasked_by words ask.Document asks other Same unasked = absurd (other (inl (inl asks)))
 unasked_by words ask.Local asks other Same unasked = absurd (other (inl (inr asks)))
@@ -699,17 +700,17 @@ not_both once words what other (root, order, is, asks) resumes =
 
 -- nor do words that ask another command ask to drive
 pub no_one : AsksOnce → (words : List (List ℕ)) (root : List ℕ) (order : Order) → IsOrder words root order → ask_of order ≡ None → order ≢ orders.Resume →
-    DrivesOne words → ⊥
+    AsksToDriveOne words → ⊥
 no_one once words root order is deploys resumes (inl (what, (other, second, more, asks))) =
     let none : None ≡ Some what = sym deploys ∙ ap ask_of (once words root other order second is more).1 ∙ asks in cc
 no_one once words root order is deploys resumes (inr (other, drives)) = resumes (once words root other order orders.Resume is drives).1
 
 -- words that ask to serve ask for no one deployment
-pub serves_alone : AsksOnce → (words : List (List ℕ)) (turns : ℕ) → Serves words turns → DrivesOne words → ⊥
+pub serves_alone : AsksOnce → (words : List (List ℕ)) (turns : ℕ) → AsksToServeTurns words turns → AsksToDriveOne words → ⊥
 serves_alone once words turns (root, is) drives = no_one once words root (orders.Serve turns) is refl (λ same. cc) drives
 
 -- and they ask so for one number of turns
-pub serves_once : AsksOnce → (words : List (List ℕ)) (a b : ℕ) → Serves words a → Serves words b → a ≡ b
+pub serves_once : AsksOnce → (words : List (List ℕ)) (a b : ℕ) → AsksToServeTurns words a → AsksToServeTurns words b → a ≡ b
 serves_once once words a b (root, is) (other, more) =
     let same : orders.Serve a ≡ orders.Serve b = (once words root other (orders.Serve a) (orders.Serve b) is more).1 in cc
 
@@ -719,11 +720,11 @@ pub no_serving : AsksOnce → (words : List (List ℕ)) (root : List ℕ) (order
 no_serving once words root order is serves (n, (other, drives)) = serves n (once words root other order (orders.Serve n) is drives).1
 
 pub no_drive : AsksOnce → (words : List (List ℕ)) (root : List ℕ) (order : Order) → IsOrder words root order → ask_of order ≡ None → order ≢ orders.Resume →
-    ((n : ℕ) → order ≢ orders.Serve n) → Drives words → ⊥
+    ((n : ℕ) → order ≢ orders.Serve n) → AsksToDrive words → ⊥
 no_drive once words root order is deploys resumes serves (inl drives) = no_one once words root order is deploys resumes drives
 no_drive once words root order is deploys resumes serves (inr drives) = no_serving once words root order is serves drives
 
-asks_by : AsksOnce → (words : List (List ℕ)) (root : List ℕ) (order : Order) → IsOrder words root order → AsksFor words (asked_of order)
+asks_by : AsksOnce → (words : List (List ℕ)) (root : List ℕ) (order : Order) → IsOrder words root order → AreWordsFor words (asked_of order)
 asks_by once words root orders.Deploy is = (root, orders.Deploy, is, refl)
 asks_by once words root orders.Local is = (root, orders.Local, is, refl)
 asks_by once words root (orders.ConfigSet name) is = (root, orders.ConfigSet name, is, refl)
@@ -732,14 +733,15 @@ asks_by once words root (orders.Serve n) is = (root, is)
 asks_by once words root order is = no_drive once words root order is refl (λ same. cc) (λ n same. cc)
 
 -- what the words ask by the command that is read from them
-pub asks_for : AsksOnce → (words : List (List ℕ)) (root : List ℕ) (order : Order) (a : Asked) → IsOrder words root order → a ≡ asked_of order → AsksFor words a
-asks_for once words root order a is same = subst (λ (x : Asked). AsksFor words x) (sym same) (asks_by once words root order is)
+pub asks_for : AsksOnce → (words : List (List ℕ)) (root : List ℕ) (order : Order) (a : Asked) → IsOrder words root order → a ≡ asked_of order →
+    AreWordsFor words a
+asks_for once words root order a is same = subst (λ (x : Asked). AreWordsFor words x) (sym same) (asks_by once words root order is)
 
 -- Nothing is done where memory for the words is refused.
 module _ (words : List (List ℕ)) (store : Store) (input : Input) (library : Shelf) (printed : Printed) (same : IsUnchanged store)
     (disk : store.faults_after ≡ store.faults_before) (source : input.faults_after ≡ input.faults_before) (shelf : library.faults_after ≡ library.faults_before)
     (sink : printed.faults_after ≡ printed.faults_before) where
-  pub unread_parts : AsksOnce → Prints printed [] → Parts words store input library printed status.Memory
+  pub unread_parts : AsksOnce → HasPrinted printed [] → Parts words store input library printed status.Memory
   unread_parts once prints =
       parts words store input library printed status.Memory once NoMemory (inr (inr (refl, same))) (record { disk = λ other. disk; source = λ other. source })
       (λ other. shelf) (inl (refl, prints, sink))

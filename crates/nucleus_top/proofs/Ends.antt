@@ -9,11 +9,12 @@ use Rattle.device.specs.Devices.{Device}
 use Rattle.command_words.specs.Laws.{AsksOnce}
 use Rattle.command_words.specs.declared.order.Order.{Order}
 use Rattle.command_words.specs.declared.order.Order.TheVariants.{Init, Status as Show, Plan, Audit, ConfigGet, Why as AskWhy, Workload}
-use Rattle.nucleus_top.specs.Words.{Asks, AsksNothing}
-use Rattle.nucleus_top.specs.Answers.{Store, Input, Shelf, Printed, Told, IsUnchanged, HasRisen, IsQuiet, IsStill, IsCutShort, Prints, Yields, usage_line}
+use Rattle.nucleus_top.specs.Words.{AsksOrder, AsksNothing}
+use Rattle.nucleus_top.specs.Answers.{Store, Input, Shelf, Printed, IsPrinted, IsUnchanged, HasRisen, IsQuiet, IsStill, IsCutShort, HasPrinted}
+use Rattle.nucleus_top.specs.Answers.{IsOrEdgeOrMemory, usage_line}
 use Rattle.nucleus_top.specs.Answers.{library_line, status_of}
-use Rattle.nucleus_top.specs.Leaving.{IsDurable, Keeps}
-use Rattle.nucleus_top.specs.Parts.{Comes, ComesOf, IsSourceFault, Parts}
+use Rattle.nucleus_top.specs.Leaving.{IsDurable, IsDurableIfDone}
+use Rattle.nucleus_top.specs.Parts.{WordsAnswer, OrderAnswer, IsSourceFault, Parts}
 use Rattle.nucleus_top.specs.Why.{IsDeclined}
 use Rattle.nucleus_top.specs.declared.answer.Answer.{Answer}
 use Rattle.nucleus_top.specs.declared.answer.Answer.TheVariants.{Unplanned, WrongWords, DiskFailed, SourceFailed, LibraryFailed, NoMemory}
@@ -31,7 +32,7 @@ use Rattle.refusal_lines.specs.Statuses.{status_of_refusal}
 use Rattle.plan_core.specs.declared.fault.Refusal.{Refusal}
 
 -- what a command's answer says of the disk
-risen : (order : Order) (store : Store) (input : Input) (library : Shelf) → ComesOf order store input library DiskFailed → HasRisen store
+risen : (order : Order) (store : Store) (input : Input) (library : Shelf) → OrderAnswer order store input library DiskFailed → HasRisen store
 risen (Init origin) store input library comes = comes.0
 risen (Show json) store input library comes = comes.1
 risen Plan store input library comes = comes.1
@@ -41,7 +42,7 @@ risen (Workload seed) store input library comes = absurd comes.1
 risen AskWhy store input library comes = comes.1
 risen _ store input library comes = absurd comes
 
-unread : (order : Order) (store : Store) (input : Input) (library : Shelf) → ComesOf order store input library SourceFailed →
+unread : (order : Order) (store : Store) (input : Input) (library : Shelf) → OrderAnswer order store input library SourceFailed →
     Rose input.faults_before input.faults_after
 unread Plan store input library comes = comes.1.2.1
 unread AskWhy store input library comes = comes.1.2.1
@@ -52,7 +53,7 @@ unread (Init origin) store input library comes = absurd comes
 unread (Show json) store input library comes = absurd comes
 unread _ store input library comes = absurd comes
 
-ungiven : (order : Order) (store : Store) (input : Input) (library : Shelf) → ComesOf order store input library LibraryFailed →
+ungiven : (order : Order) (store : Store) (input : Input) (library : Shelf) → OrderAnswer order store input library LibraryFailed →
     Rose library.faults_before library.faults_after
 ungiven Plan store input library comes = comes.1.2.1
 ungiven AskWhy store input library comes = comes.1.2.1
@@ -70,10 +71,10 @@ Refuses store r text = IsUnchanged store × (status_of_refusal r ≡ status.Memo
 -- of a document that is refused with its line
 declines : (d : Device) (store : Store) (input : Input) (library : Shelf) (r : Refusal) (text : List ℕ) → IsUnchanged store →
     IsDeclined d input library r text → Refuses store r text
-declines d store input library r text same declined = (same, λ is. declined.text_is ∙ silent r is, declined.told)
+declines d store input library r text same declined = (same, λ is. declined.text_is ∙ silent r is, declined.not_library)
 
 unplanned : (order : Order) (store : Store) (input : Input) (library : Shelf) (r : Refusal) (text : List ℕ) →
-    ComesOf order store input library (Unplanned r text) → Refuses store r text
+    OrderAnswer order store input library (Unplanned r text) → Refuses store r text
 unplanned Plan store input library r text comes = (comes.0, λ is. comes.1.2.1 ∙ silent r is, comes.1.2.2)
 unplanned AskWhy store input library r text comes = declines comes.1.0 store input library r text comes.0 comes.1.2
 unplanned (Workload seed) store input library r text comes = absurd comes.1
@@ -83,7 +84,7 @@ unplanned (Init origin) store input library r text comes = absurd comes
 unplanned (Show json) store input library r text comes = absurd comes
 unplanned _ store input library r text comes = absurd comes
 
-untouched : (order : Order) (store : Store) (input : Input) (library : Shelf) → ComesOf order store input library NoMemory → IsUnchanged store
+untouched : (order : Order) (store : Store) (input : Input) (library : Shelf) → OrderAnswer order store input library NoMemory → IsUnchanged store
 untouched (Init origin) store input library comes = comes
 untouched (Show json) store input library comes = comes
 untouched Plan store input library comes = comes
@@ -93,7 +94,7 @@ untouched (ConfigGet name at) store input library comes = comes
 untouched AskWhy store input library comes = comes
 untouched _ store input library comes = absurd comes
 
-no_usage : (order : Order) (store : Store) (input : Input) (library : Shelf) → ComesOf order store input library WrongWords → ⊥
+no_usage : (order : Order) (store : Store) (input : Input) (library : Shelf) → OrderAnswer order store input library WrongWords → ⊥
 no_usage (Init origin) store input library comes = comes
 no_usage (Show json) store input library comes = comes
 no_usage Plan store input library comes = comes.1.2
@@ -104,58 +105,58 @@ no_usage AskWhy store input library comes = comes.1.2
 no_usage _ store input library comes = absurd comes
 
 module _ (words : List (List ℕ)) (store : Store) (input : Input) (library : Shelf) (printed : Printed) (result : Status) where
-  wrong : Comes words store input library WrongWords → AsksNothing words × IsUnchanged store
+  wrong : WordsAnswer words store input library WrongWords → AsksNothing words × IsUnchanged store
   wrong (inl comes) = absurd (no_usage comes.0 store input library comes.2)
   wrong (inr (inl comes)) = (comes.1, comes.2)
   wrong (inr (inr comes)) = cc
 
-  refuses : (r : Refusal) (text : List ℕ) → Comes words store input library (Unplanned r text) → Refuses store r text
+  refuses : (r : Refusal) (text : List ℕ) → WordsAnswer words store input library (Unplanned r text) → Refuses store r text
   refuses r text (inl comes) = unplanned comes.0 store input library r text comes.2
   refuses r text (inr (inl comes)) = cc
   refuses r text (inr (inr comes)) = cc
 
-  usage : (a : Answer) → Comes words store input library a → Told printed result a → result ≡ status.Usage → AsksNothing words × IsUnchanged store ×
-      Prints printed usage_line
+  usage : (a : Answer) → WordsAnswer words store input library a → IsPrinted printed result a → result ≡ status.Usage → AsksNothing words × IsUnchanged store ×
+      HasPrinted printed usage_line
   usage WrongWords comes (inl told) is = let w = wrong comes in (w.0, w.1, told.1)
   usage (Unplanned r text) comes (inl told) is = absurd (no_refusal r status.Usage refl (sym told.0 ∙ is))
   usage a comes (inl told) is = cc
   usage a comes (inr told) is = cc
 
-  usage_comes : (a : Answer) → Comes words store input library a → Told printed result a → AsksNothing words → Yields result status.Usage
+  usage_comes : (a : Answer) → WordsAnswer words store input library a → IsPrinted printed result a → AsksNothing words → IsOrEdgeOrMemory result status.Usage
   usage_comes a comes (inr told) nothing = inr (inl told.0)
   usage_comes a (inl comes) (inl told) nothing = absurd (nothing comes.0 comes.1)
   usage_comes a (inr (inl comes)) (inl told) nothing = inl (told.0 ∙ ap status_of comes.0)
   usage_comes a (inr (inr comes)) (inl told) nothing = inr (inr (told.0 ∙ ap status_of comes.0))
 
-  failed : Comes words store input library DiskFailed → HasRisen store
+  failed : WordsAnswer words store input library DiskFailed → HasRisen store
   failed (inl comes) = risen comes.0 store input library comes.2
   failed (inr (inl comes)) = cc
   failed (inr (inr comes)) = cc
 
-  disk : (a : Answer) → Comes words store input library a → Told printed result a → result ≡ status.Disk → HasRisen store ×
-      Prints printed (codes "fault 5 disk\n")
+  disk : (a : Answer) → WordsAnswer words store input library a → IsPrinted printed result a → result ≡ status.Disk → HasRisen store ×
+      HasPrinted printed (codes "fault 5 disk\n")
   disk DiskFailed comes (inl told) is = (failed comes, told.1)
   disk (Unplanned r text) comes (inl told) is = absurd (no_refusal r status.Disk refl (sym told.0 ∙ is))
   disk a comes (inl told) is = cc
   disk a comes (inr told) is = cc
 
-  source : Comes words store input library SourceFailed → Rose input.faults_before input.faults_after
+  source : WordsAnswer words store input library SourceFailed → Rose input.faults_before input.faults_after
   source (inl comes) = unread comes.0 store input library comes.2
   source (inr (inl comes)) = cc
   source (inr (inr comes)) = cc
 
-  shelf : Comes words store input library LibraryFailed → Rose library.faults_before library.faults_after
+  shelf : WordsAnswer words store input library LibraryFailed → Rose library.faults_before library.faults_after
   shelf (inl comes) = ungiven comes.0 store input library comes.2
   shelf (inr (inl comes)) = cc
   shelf (inr (inr comes)) = cc
 
-  disk_stays : (a : Answer) → IsQuiet store input a → Told printed result a → result ≢ status.Disk → result ≢ status.Edge →
+  disk_stays : (a : Answer) → IsQuiet store input a → IsPrinted printed result a → result ≢ status.Disk → result ≢ status.Edge →
       store.faults_after ≡ store.faults_before
   disk_stays a quiet (inl told) other more = quiet.disk (λ is. other (told.0 ∙ ap status_of is))
   disk_stays a quiet (inr told) other more = absurd (more told.0)
 
-  edge : (a : Answer) → Comes words store input library a → IsQuiet store input a → IsStill library a → Told printed result a → result ≡ status.Edge
-      → IsSourceFault words store input library printed ⊎ ((answer : Answer) × Comes words store input library answer × IsQuiet store input answer ×
+  edge : (a : Answer) → WordsAnswer words store input library a → IsQuiet store input a → IsStill library a → IsPrinted printed result a → result ≡ status.Edge
+      → IsSourceFault words store input library printed ⊎ ((answer : Answer) × WordsAnswer words store input library answer × IsQuiet store input answer ×
       IsStill library answer × IsCutShort printed answer)
   edge a comes quiet still (inr told) is = inr (a, comes, quiet, still, told.1)
   edge SourceFailed comes quiet still (inl told) is = inl (record {
@@ -170,37 +171,38 @@ module _ (words : List (List ℕ)) (store : Store) (input : Input) (library : Sh
   edge (Unplanned r text) comes quiet still (inl told) is = absurd (no_refusal r status.Edge refl (sym told.0 ∙ is))
   edge a comes quiet still (inl told) is = cc
 
-  edges_stay : (a : Answer) → IsQuiet store input a → Told printed result a → result ≢ status.Edge
+  edges_stay : (a : Answer) → IsQuiet store input a → IsPrinted printed result a → result ≢ status.Edge
       → (input.faults_after ≡ input.faults_before) × (printed.faults_after ≡ printed.faults_before)
   edges_stay a quiet (inl told) other = (quiet.source (λ is. other (told.0 ∙ ap status_of is)), told.2)
   edges_stay a quiet (inr told) other = absurd (other told.0)
 
-  given : (a : Answer) → Comes words store input library a → Told printed result a → result ≡ status.Library → Rose library.faults_before library.faults_after
-      × Prints printed library_line
+  given : (a : Answer) → WordsAnswer words store input library a → IsPrinted printed result a → result ≡ status.Library →
+      Rose library.faults_before library.faults_after × HasPrinted printed library_line
   given LibraryFailed comes (inl told) is = (shelf comes, told.1)
   given (Unplanned r text) comes (inl told) is = absurd ((refuses r text comes).2 (sym told.0 ∙ is))
   given a comes (inl told) is = cc
   given a comes (inr told) is = cc
 
-  library_stays : (a : Answer) → IsStill library a → Told printed result a → result ≢ status.Library → result ≢ status.Edge →
+  library_stays : (a : Answer) → IsStill library a → IsPrinted printed result a → result ≢ status.Library → result ≢ status.Edge →
       library.faults_after ≡ library.faults_before
   library_stays a still (inl told) other more = still (λ is. other (told.0 ∙ ap status_of is))
   library_stays a still (inr told) other more = absurd (more told.0)
 
-  same : Comes words store input library NoMemory → IsUnchanged store
+  same : WordsAnswer words store input library NoMemory → IsUnchanged store
   same (inl comes) = untouched comes.0 store input library comes.2
   same (inr (inl comes)) = comes.2
   same (inr (inr comes)) = comes.1
 
-  memory : (a : Answer) → Comes words store input library a → Told printed result a → result ≡ status.Memory → IsUnchanged store × Prints printed (codes "")
+  memory : (a : Answer) → WordsAnswer words store input library a → IsPrinted printed result a → result ≡ status.Memory →
+      IsUnchanged store × HasPrinted printed (codes "")
   memory NoMemory comes (inl told) is = (same comes, told.1)
   memory (Unplanned r text) comes (inl told) is =
       let r_is = refuses r text comes in
-      (r_is.0, subst (λ (t : List ℕ). Prints printed t) (r_is.1 (sym told.0 ∙ is)) told.1)
+      (r_is.0, subst (λ (t : List ℕ). HasPrinted printed t) (r_is.1 (sym told.0 ∙ is)) told.1)
   memory a comes (inl told) is = cc
   memory a comes (inr told) is = cc
 
-  pub parts : AsksOnce → (a : Answer) → Comes words store input library a → IsQuiet store input a → IsStill library a → Told printed result a →
+  pub parts : AsksOnce → (a : Answer) → WordsAnswer words store input library a → IsQuiet store input a → IsStill library a → IsPrinted printed result a →
       Parts words store input library printed result
   parts once a comes quiet still told = record {
     usage = usage a comes told;
@@ -224,6 +226,6 @@ module _ (words : List (List ℕ)) (store : Store) (input : Input) (library : Sh
 
 -- 0 is answered only where the work is done
 pub durable : (order : Order) (images : Image → Type 0) (seen : Image) (printed : Printed) (result : Status) (a : Answer)
-    → Told printed result a → Keeps order images seen a → result ≡ status.Done → IsDurable order images seen
+    → IsPrinted printed result a → IsDurableIfDone order images seen a → result ≡ status.Done → IsDurable order images seen
 durable order images seen printed result a (inl told) keeps is = keeps (sym told.0 ∙ is)
 durable order images seen printed result a (inr told) keeps is = cc

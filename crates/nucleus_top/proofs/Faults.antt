@@ -7,20 +7,20 @@ use Rattle.records.specs.declared.record.Origin.{Origin}
 use Rattle.deploy_state.specs.declared.fault.LoadFault.{LoadFault}
 use Rattle.deploy_state.specs.declared.fault.LoadFault.TheVariants as load
 use Rattle.nucleus_top.specs.Answers.{Store, Input, Shelf, IsUnchanged, HasRisen, status_of}
-use Rattle.nucleus_top.specs.Audits.{Audits}
-use Rattle.nucleus_top.specs.Inits.{Inits}
+use Rattle.nucleus_top.specs.Audits.{AuditAnswer}
+use Rattle.nucleus_top.specs.Inits.{InitAnswer}
 use Rattle.nucleus_top.specs.Leaving.{IsDurable}
-use Rattle.nucleus_top.specs.Opening.{Opens}
-use Rattle.nucleus_top.specs.Planning.{Plans}
-use Rattle.nucleus_top.specs.Refusing.{TellsFault, Refuses}
-use Rattle.nucleus_top.specs.Shows.{Shows}
+use Rattle.nucleus_top.specs.Opening.{OpenAnswer}
+use Rattle.nucleus_top.specs.Planning.{PlanAnswer}
+use Rattle.nucleus_top.specs.Refusing.{TellsFault, NoDeviceAnswer}
+use Rattle.nucleus_top.specs.Shows.{StatusAnswer}
 use Rattle.nucleus_top.specs.declared.answer.Answer.{Answer}
 use Rattle.nucleus_top.specs.declared.answer.Answer.TheVariants.{Shown, Whole, Differs, DiskFailed, NotInitialised, Damaged, NoMemory}
 
 module _ (store : Store) (fault : LoadFault) (a : Answer) (tells_fault : TellsFault fault a) (same : IsUnchanged store)
-    (told : IsTrue store.is_modelled → Opens store.before (Err fault)) (cause : fault ≡ load.Disk → HasRisen store) where
-  refuses_by : (f : LoadFault) (x : Answer) → TellsFault f x → (IsTrue store.is_modelled → Opens store.before (Err f)) → (f ≡ load.Disk → HasRisen store) →
-      Refuses store x
+    (told : IsTrue store.is_modelled → OpenAnswer store.before (Err fault)) (cause : fault ≡ load.Disk → HasRisen store) where
+  refuses_by : (f : LoadFault) (x : Answer) → TellsFault f x → (IsTrue store.is_modelled → OpenAnswer store.before (Err f)) → (f ≡ load.Disk → HasRisen store) →
+      NoDeviceAnswer store x
   refuses_by load.Disk DiskFailed is_modelled opens rose = (same, rose refl)
   refuses_by load.NotInitialised NotInitialised is_modelled opens rose = (same, opens)
   refuses_by (load.Damaged at) (Damaged place) is_modelled opens rose = (same, (at, is_modelled, opens))
@@ -28,28 +28,29 @@ module _ (store : Store) (fault : LoadFault) (a : Answer) (tells_fault : TellsFa
   refuses_by load.NoMemory NoMemory is_modelled opens rose = same
   refuses_by f x is_modelled opens rose = absurd is_modelled
 
-  pub refuses : Refuses store a
+  pub refuses : NoDeviceAnswer store a
   refuses = refuses_by fault a tells_fault told cause
 
 -- why each command answers so
-pub refused_shows : (json : Bool) (store : Store) (a : Answer) → Refuses store a → Shows json store a
+pub refused_shows : (json : Bool) (store : Store) (a : Answer) → NoDeviceAnswer store a → StatusAnswer json store a
 refused_shows json store (Shown text) r = absurd r
 refused_shows json store a r = r
 
-pub refused_audits : (store : Store) (a : Answer) → Refuses store a → Audits store a
+pub refused_audits : (store : Store) (a : Answer) → NoDeviceAnswer store a → AuditAnswer store a
 refused_audits store Whole r = absurd r
 refused_audits store (Differs text) r = absurd r
 refused_audits store a r = r
 
-pub refused_plans : (store : Store) (input : Input) (library : Shelf) (a : Answer) → Refuses store a → Plans store input library a
+pub refused_plans : (store : Store) (input : Input) (library : Shelf) (a : Answer) → NoDeviceAnswer store a → PlanAnswer store input library a
 refused_plans store input library DiskFailed r = r
 refused_plans store input library NotInitialised r = r
 refused_plans store input library (Damaged place) r = r
 refused_plans store input library NoMemory r = r
 refused_plans store input library a r = absurd r
 
-pub refused_inits : (origin : Origin) (store : Store) (fault : LoadFault) (a : Answer) → fault ≢ load.NotInitialised → TellsFault fault a → Refuses store a →
-    Inits origin store a
+pub refused_inits : (origin : Origin) (store : Store) (fault : LoadFault) (a : Answer) → fault ≢ load.NotInitialised → TellsFault fault a →
+    NoDeviceAnswer store a →
+    InitAnswer origin store a
 refused_inits origin store load.Disk DiskFailed other is_modelled r = (r.1, λ told. inl r.0)
 refused_inits origin store load.NotInitialised a other is_modelled r = absurd (other refl)
 refused_inits origin store (load.Damaged at) (Damaged place) other is_modelled r = r

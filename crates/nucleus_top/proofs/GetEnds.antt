@@ -10,9 +10,9 @@ use Rattle.nuc_base.specs.Tables.{IsFirst}
 use Rattle.config_cmd.specs.Nodes.{IsNodeText, config_in, get_lines}
 use Rattle.config_cmd.specs.declared.fault.GetFault.{GetFault}
 use Rattle.config_cmd.specs.declared.fault.GetFault.TheVariants as fault
-use Rattle.nucleus_top.specs.Answers.{Store, Printed, Told, Prints, Expects}
-use Rattle.nucleus_top.specs.Gets.{GetParts, Gets, GetsOn, IsAbsence, IsNodeLine, TellsAbsence, TellsNode, absent_line}
-use Rattle.nucleus_top.specs.Opening.{HasEntry, Stands}
+use Rattle.nucleus_top.specs.Answers.{Store, Printed, IsPrinted, HasPrinted, IsOrFault}
+use Rattle.nucleus_top.specs.Gets.{GetParts, GetAnswer, GetAnswerOn, IsAbsence, IsNodeLine, TellsAbsence, TellsNode, absent_line}
+use Rattle.nucleus_top.specs.Opening.{HasEntry, IsImageOf}
 use Rattle.nucleus_top.specs.Planning.{IsFound}
 use Rattle.nucleus_top.specs.declared.answer.Answer.{Answer}
 use Rattle.nucleus_top.specs.declared.answer.Answer.TheVariants.{Made, Shown, Planned, Possible, Got}
@@ -20,19 +20,20 @@ use Rattle.nucleus_top.specs.declared.answer.Answer.TheVariants.{Drawn, Absent, 
 use Rattle.nucleus_top.specs.declared.answer.Answer.TheVariants.{Damaged, NoMemory}
 use Rattle.nucleus_top.proofs.Looked.{TellsNone, looked_parts, reads_only}
 use Rattle.nucleus_top.proofs.Standing.{same_device}
-use Rattle.nucleus_top.proofs.Told.{told_of}
+use Rattle.nucleus_top.proofs.Told.{answer_or_edge}
 
-pub gets_none : (name : List ℕ) (at : List (List ℕ)) (store : Store) → TellsNone (λ d. GetsOn d name at) store
+pub gets_none : (name : List ℕ) (at : List (List ℕ)) (store : Store) → TellsNone (λ d. GetAnswerOn d name at) store
 gets_none name at store = record { disk_fails = λ d on. on; no_entry = λ d on. on; harmed = λ d place on. on }
 
-pub got_on : (d : Device) (name : List ℕ) (at : List (List ℕ)) (text : List ℕ) (a : Answer) → IsNodeText d name at text → TellsNode text a → GetsOn d name at a
+pub got_on : (d : Device) (name : List ℕ) (at : List (List ℕ)) (text : List ℕ) (a : Answer) → IsNodeText d name at text → TellsNode text a →
+    GetAnswerOn d name at a
 got_on d name at text (Got line) has tells = (text, has, tells)
 got_on d name at text NoMemory has tells = tt
 got_on d name at text a has tells = absurd tells
 
 pub absent_on : {E : Type 0} (d : Device) (name : List ℕ) (at : List (List ℕ)) (f : GetFault) (line : Result (List ℕ) E) (a : Answer)
     → (f ≢ fault.NoMemory) → (f ≡ fault.NoMemory) ⊎ IsFirst (get_lines d name at) f → IfOk line (λ l. l ≡ absent_line name at f) → TellsAbsence line a
-    → GetsOn d name at a
+    → GetAnswerOn d name at a
 absent_on d name at f line a told (inl memory) is tells = absurd (told memory)
 absent_on d name at f (Ok text) (Absent line) told (inr first) is tells = (f, first, tells ∙ is)
 absent_on d name at f (Ok text) a told (inr first) is tells = absurd tells
@@ -56,10 +57,10 @@ not_both d name at text other has lacks = elim lacks.1 [
 
 module _ (name : List ℕ) (at : List (List ℕ)) (store : Store) (printed : Printed) (result : Status) where
   abbrev On : Device → Answer → Type 0
-  On d = GetsOn d name at
+  On d = GetAnswerOn d name at
 
-  done : (a : Answer) → Gets name at store a → Told printed result a → result ≡ status.Done → (d : Device) × IsFound store d × ((text : List ℕ) ×
-      IsNodeLine d name at text × Prints printed text)
+  done : (a : Answer) → GetAnswer name at store a → IsPrinted printed result a → result ≡ status.Done → (d : Device) × IsFound store d × ((text : List ℕ) ×
+      IsNodeLine d name at text × HasPrinted printed text)
   done (Got text) comes (inl told) is = (comes.1.0, comes.1.1, (text, comes.1.2, told.1))
   done (Made thing) comes (inl told) is = absurd comes.1.2
   done (Shown text) comes (inl told) is = absurd comes.1.2
@@ -71,19 +72,20 @@ module _ (name : List ℕ) (at : List (List ℕ)) (store : Store) (printed : Pri
   done a comes (inl told) is = cc
   done a comes (inr told) is = cc
 
-  absent : (a : Answer) → Gets name at store a → Told printed result a → result ≡ status.Absent → (d : Device) × IsFound store d × ((text : List ℕ) ×
-      IsAbsence d name at text × Prints printed text)
+  absent : (a : Answer) → GetAnswer name at store a → IsPrinted printed result a → result ≡ status.Absent → (d : Device) × IsFound store d × ((text : List ℕ) ×
+      IsAbsence d name at text × HasPrinted printed text)
   absent (Absent text) comes (inl told) is = (comes.1.0, comes.1.1, (text, comes.1.2, told.1))
   absent (Unplanned r text) comes (inl told) is = absurd comes.1.2
   absent a comes (inl told) is = cc
   absent a comes (inr told) is = cc
 
-  module _ (is_modelled : IsTrue store.is_modelled) (some : HasEntry store.before) (d : Device) (stands : Stands store.before d) where
+  module _ (is_modelled : IsTrue store.is_modelled) (some : HasEntry store.before) (d : Device) (stands : IsImageOf store.before d) where
     -- what is found is that device
     at_it : (Is : Device → Type 0) (e : Device) → IsFound store e → Is e → Is d
     at_it Is e found is = subst Is (same_device store.before e d (found is_modelled).1 stands) is
 
-    done_comes : (a : Answer) → Gets name at store a → Told printed result a → (text : List ℕ) → IsNodeLine d name at text → Expects result status.Done
+    done_comes : (a : Answer) → GetAnswer name at store a → IsPrinted printed result a → (text : List ℕ) → IsNodeLine d name at text →
+        IsOrFault result status.Done
     done_comes a comes (inr told) text has = inr (inr (inl told.0))
     done_comes (Got node) comes (inl told) text has = inr (inl told.0)
     done_comes (Absent line) comes (inl told) text has =
@@ -94,7 +96,8 @@ module _ (name : List ℕ) (at : List (List ℕ)) (store : Store) (printed : Pri
     done_comes NoMemory comes (inl told) text has = inr (inr (inr told.0))
     done_comes a comes (inl told) text has = absurd comes.1.2
 
-    absent_comes : (a : Answer) → Gets name at store a → Told printed result a → (text : List ℕ) → IsAbsence d name at text → Expects result status.Absent
+    absent_comes : (a : Answer) → GetAnswer name at store a → IsPrinted printed result a → (text : List ℕ) → IsAbsence d name at text →
+        IsOrFault result status.Absent
     absent_comes a comes (inr told) text lacks = inr (inr (inl told.0))
     absent_comes (Got node) comes (inl told) text lacks =
         absurd (not_both d name at node text (at_it (λ x. IsNodeLine x name at node) comes.1.0 comes.1.1 comes.1.2) lacks)
@@ -105,9 +108,9 @@ module _ (name : List ℕ) (at : List (List ℕ)) (store : Store) (printed : Pri
     absent_comes NoMemory comes (inl told) text lacks = inr (inr (inr told.0))
     absent_comes a comes (inl told) text lacks = absurd comes.1.2
 
-  pub get_parts : (a : Answer) → Gets name at store a → Told printed result a → GetParts name at store printed result
+  pub get_parts : (a : Answer) → GetAnswer name at store a → IsPrinted printed result a → GetParts name at store printed result
   get_parts a comes told = record {
-    which = told_of (Gets name at store) printed result a comes told;
+    which = answer_or_edge (GetAnswer name at store) printed result a comes told;
     reads_only = reads_only On store a comes;
     done = done a comes told;
     done_comes = λ is_modelled some d stands text has. done_comes is_modelled some d stands a comes told text has;

@@ -1,6 +1,6 @@
 -- What a crash may leave of the steps of a command.
 use Rattle.std.proofs.Common.{◌≡◌, ◌∙◌, inl, inr, ⊎_elim, ℕ, List, Bool, IsTrue, ap, sym, subst, refl}
-use Rattle.disk_model.specs.Disk.{Image, Leaves, DiskLaws}
+use Rattle.disk_model.specs.Disk.{Image, HasLeft, DiskLaws}
 use Rattle.disk_model.specs.Moments.{now, joined, weaker, tells_of, at_start}
 use Rattle.gate_log.specs.Entries.{journal, HoldsNone}
 use Rattle.gate_log.specs.Journal.{AreSettled}
@@ -14,10 +14,10 @@ use Rattle.command_words.specs.declared.order.Order.TheVariants.{Init}
 use Rattle.device.specs.Devices.{Device, no_device}
 use Rattle.deploy_state.specs.Owned.{OwnsJournal, LeavesEither, StandsForEither}
 use Rattle.nucleus_top.specs.Answers.{store_of}
-use Rattle.nucleus_top.specs.Begun.{IsNoneOrBegun, Begins, begun_device}
-use Rattle.nucleus_top.specs.Leaving.{LeavesOf, MayLeave}
-use Rattle.nucleus_top.specs.Opening.{Stands}
-use Rattle.nucleus_top.specs.Words.{Asks}
+use Rattle.nucleus_top.specs.Begun.{IsNoneOrBegun, ImageBegun, begun_device}
+use Rattle.nucleus_top.specs.Leaving.{MayBeLeftAfter, MayLeave}
+use Rattle.nucleus_top.specs.Opening.{IsImageOf}
+use Rattle.nucleus_top.specs.Words.{AsksOrder}
 use Rattle.nucleus_top.proofs.Origins.{none_held}
 
 -- an image of a journal that is begun holds no entry, or stands for the new device
@@ -35,16 +35,16 @@ module _ {D : Type 0} {is_modelled : Bool} {seen : D → Image} {may_leave : D �
         (subst HoldsNone (sym (settled journal (inl refl) c left)) holds.0, subst HoldsNone (sym (settled second (inr refl) c left)) holds.1)
 
     -- a journal is made with its first entry
-    pub created : (new : D) → Leaves moment left_since old new (LeavesEither may_leave slots_files slots_entries old no_device (begun_device o))
-        → Leaves moment left_since old new (LeavesOf (Init o) (may_leave old))
+    pub created : (new : D) → HasLeft moment left_since old new (LeavesEither may_leave slots_files slots_entries old no_device (begun_device o))
+        → HasLeft moment left_since old new (MayBeLeftAfter (Init o) (may_leave old))
     created new leaves =
         weaker laws old new _ _
         (λ c was. inr (was.0, was.1, record { none = none_left was.0 was.1; within = record { here = none_or_begun o c was.2.here; others = was.2.others } }))
         leaves
 
     -- what the disk then reads as is one of the images
-    pub begun : (new : D) → Leaves moment left_since old new (LeavesOf (Init o) (may_leave old)) → IsTrue is_modelled
-        → ((name : List ℕ) → ¬ (slots_files name) → seen new name ≡ seen old name) → Begins o (seen old) (seen new)
+    pub begun : (new : D) → HasLeft moment left_since old new (MayBeLeftAfter (Init o) (may_leave old)) → IsTrue is_modelled
+        → ((name : List ℕ) → ¬ (slots_files name) → seen new name ≡ seen old name) → ImageBegun o (seen old) (seen new)
     begun new leaves told others = record {
       none = none told;
       within = record {
@@ -56,43 +56,43 @@ module _ {D : Type 0} {is_modelled : Bool} {seen : D → Image} {may_leave : D �
 
   -- each image of a journal that is in hand stands for the device
   pub held_stands : {end : Slots → ℕ} (log : Slots) (disk : D) (d : Device) → OwnsJournal is_modelled may_leave slots_stands end log disk d → (c : Image) →
-      may_leave disk c → Stands c d
+      may_leave disk c → IsImageOf c d
   held_stands log disk d hand c left =
       let means = hand.means (tells_of laws disk c left) in
       record { payloads = hand.payloads; live = slots_laws.holds log c hand.payloads (hand.behind.each c left); means = means.0; room = means.1 }
 
   -- a command that goes on after a call that changes nothing
-  pub then_order : (order : Order) (old mid new : D) → Leaves moment left_since old mid (may_leave old)
-      → Leaves moment left_since mid new (LeavesOf order (may_leave mid)) → Leaves moment left_since old new (LeavesOf order (may_leave old))
+  pub then_order : (order : Order) (old mid new : D) → HasLeft moment left_since old mid (may_leave old)
+      → HasLeft moment left_since mid new (MayBeLeftAfter order (may_leave mid)) → HasLeft moment left_since old new (MayBeLeftAfter order (may_leave old))
   then_order order old mid new first second =
       joined laws old mid new _ _ _ first second
       (λ c left. inl left)
       (λ c left. ⊎_elim (λ l. inl (now laws old mid _ first c l)) (λ was. inr (was.0, now laws old mid _ first was.0 was.1, was.2)) left)
 
   -- a call that changes nothing
-  pub only_allowed : (order : Order) (old new : D) → Leaves moment left_since old new (may_leave old) →
-      Leaves moment left_since old new (LeavesOf order (may_leave old))
+  pub only_allowed : (order : Order) (old new : D) → HasLeft moment left_since old new (may_leave old) →
+      HasLeft moment left_since old new (MayBeLeftAfter order (may_leave old))
   only_allowed order old new leaves = weaker laws old new _ _ (λ c left. inl left) leaves
 
   -- what a crash leaves of these files stays so
-  pub settled_on : (files : List ℕ → Type 0) (old new : D) → Leaves moment left_since old new (may_leave old) → seen new ≡ seen old
+  pub settled_on : (files : List ℕ → Type 0) (old new : D) → HasLeft moment left_since old new (may_leave old) → seen new ≡ seen old
       → AreSettled seen may_leave files old → AreSettled seen may_leave files new
   settled_on files old new leaves same settled = λ file is c left.
       settled file is c (now laws old new _ leaves c left) ∙ ap (λ (s : Image). s file) (sym same)
 
   -- no call
-  pub not_called : (order : Order) (old new : D) → new ≡ old → Leaves moment left_since old new (LeavesOf order (may_leave old))
-  not_called order old new same = subst (λ (d : D). Leaves moment left_since old d (LeavesOf order (may_leave old))) (sym same)
+  pub not_called : (order : Order) (old new : D) → new ≡ old → HasLeft moment left_since old new (MayBeLeftAfter order (may_leave old))
+  not_called order old new same = subst (λ (d : D). HasLeft moment left_since old d (MayBeLeftAfter order (may_leave old))) (sym same)
       (only_allowed order old old (at_start laws old))
 
   -- by the words that ask the command
-  pub by_words : (words : List (List ℕ)) (order : Order) (old new : D) → Asks words order
-      → Leaves moment left_since old new (LeavesOf order (may_leave old)) → Leaves moment left_since old new (MayLeave words (may_leave old))
+  pub by_words : (words : List (List ℕ)) (order : Order) (old new : D) → AsksOrder words order
+      → HasLeft moment left_since old new (MayBeLeftAfter order (may_leave old)) → HasLeft moment left_since old new (MayLeave words (may_leave old))
   by_words words order old new asks leaves =
       weaker laws old new _ _ (λ c left. ⊎_elim (λ l. inl l) (λ was. inr (order, asks, was)) left) leaves
 
-  pub by_none : (words : List (List ℕ)) (old new : D) → Leaves moment left_since old new (may_leave old) →
-      Leaves moment left_since old new (MayLeave words (may_leave old))
+  pub by_none : (words : List (List ℕ)) (old new : D) → HasLeft moment left_since old new (may_leave old) →
+      HasLeft moment left_since old new (MayLeave words (may_leave old))
   by_none words old new leaves = weaker laws old new _ _ (λ c left. inl left) leaves
 
 -- a call after one that changed nothing and counted no fault

@@ -108,15 +108,15 @@ closes_one : (d : Device) (o : Outcome) (p : Option Pending) → IsSomeAnd p (λ
 closes_one d o None may = absurd may
 closes_one d o (Some q) may = omega (arith, length-append d.closed ((q.plan.id, o) ∷ []))
 
-closes_behind : (front : List Record) (d e : Device) (o : Outcome) → Run d (front ++ Closed o ∷ []) e → length d.closed < length e.closed
+closes_behind : (prefix : List Record) (d e : Device) (o : Outcome) → Run d (prefix ++ Closed o ∷ []) e → length d.closed < length e.closed
 closes_behind [] d e o run =
     let same : e ≡ close_pending o d d.pending = run.2 ∙ run.1.leaves in
     subst (λ (x : Device). length d.closed < length x.closed) (sym same) (closes_one d o d.pending run.1.allowed)
-closes_behind (r ∷ front) d e o run =
+closes_behind (r ∷ prefix) d e o run =
     let c = run.0 in
     let grows = (runs_lose_nothing d c (r ∷ []) (c, run.1, refl)).closed in
     let long : length c.closed ≡ length (d.closed ++ grows.0) = ap (λ (l : List (List ℕ × Outcome)). length l) grows.1 in
-    omega (arith, long, length-append d.closed grows.0, closes_behind front c e o run.2)
+    omega (arith, long, length-append d.closed grows.0, closes_behind prefix c e o run.2)
 
-pub runs_close_more : (d e : Device) (front : List Record) (o : Outcome) → Run d (front ++ Closed o ∷ []) e → length d.closed < length e.closed
-runs_close_more d e front o run = closes_behind front d e o run
+pub runs_close_more : (d e : Device) (prefix : List Record) (o : Outcome) → Run d (prefix ++ Closed o ∷ []) e → length d.closed < length e.closed
+runs_close_more d e prefix o run = closes_behind prefix d e o run

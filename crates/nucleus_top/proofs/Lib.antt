@@ -10,7 +10,7 @@ mod Driven
 mod Ends
 mod Faults
 mod Forms
-mod Fronts
+mod LongTexts
 mod GetEnds
 mod Images
 mod InitEnds

@@ -6,18 +6,18 @@ use Rattle.disk_model.specs.Disk.{Image}
 use Rattle.checkpoint_log.specs.Slots.{slots_entries, slots_none}
 use Rattle.records.specs.declared.record.Origin.{Origin}
 use Rattle.device.specs.Devices.{Device, no_device}
-use Rattle.device.specs.Standing.{Means}
+use Rattle.device.specs.Standing.{IsMeant}
 use Rattle.device.proofs.Origins.{has_origin}
-use Rattle.nucleus_top.specs.Opening.{HasEntry, IsFoundAs, Stands}
+use Rattle.nucleus_top.specs.Opening.{HasEntry, IsFoundAs, IsImageOf}
 use Rattle.nucleus_top.proofs.Standing.{none_of, same_device, none_stands}
 
 -- what means the device before its first record is no payload
-no_payload : (ps : List (List ℕ)) → Means ps no_device → ps ≡ []
+no_payload : (ps : List (List ℕ)) → IsMeant ps no_device → ps ≡ []
 no_payload [] means = refl
 no_payload (p ∷ ps) means = let origin = has_origin (p ∷ ps) no_device (λ is. cc) means in absurd cc
 
 -- a journal that stands for it holds no entry
-pub none_held : (image : Image) → Stands image no_device → slots_none image
+pub none_held : (image : Image) → IsImageOf image no_device → slots_none image
 none_held image stands = none_of image (subst (λ (ps : List (List ℕ)). slots_entries image ps) (no_payload stands.payloads stands.means) stands.live)
 
 some_origin : (x : Option Origin) → x ≡ None → IsSome x → ⊥
@@ -25,14 +25,14 @@ some_origin None is some = false≢true some
 some_origin (Some o) is some = absurd cc
 
 -- one that stands for a device with an origin holds some
-pub has_entry : (image : Image) (d : Device) → Stands image d → IsSome d.origin → HasEntry image
+pub has_entry : (image : Image) (d : Device) → IsImageOf image d → IsSome d.origin → HasEntry image
 has_entry image d stands some = λ none.
     let same : d ≡ no_device = same_device image d no_device stands (none_stands image none) in
     some_origin d.origin (ap (λ (x : Device). x.origin) same) some
 
 -- ---- what is found
 
-pub are_found : (image : Image) (d : Device) → Stands image d → IsSome d.origin → IsFoundAs image d
+pub are_found : (image : Image) (d : Device) → IsImageOf image d → IsSome d.origin → IsFoundAs image d
 are_found image d stands some = record {
   some = has_entry image d stands some;
   one = λ e other. same_device image e d other stands;

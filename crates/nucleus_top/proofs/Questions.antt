@@ -18,9 +18,9 @@ use Rattle.device.specs.Limits.{most_closed, most_groups}
 use Rattle.deployment_doc.specs.declared.document.Document.{Document}
 use Rattle.deployment_doc.specs.declared.fault.DocFault.{DocFault}
 use Rattle.deployment_doc.specs.declared.fault.DocFault.TheVariants as doc
-use Rattle.plan_core.specs.Checks.{Facts, Ageing, Gathering, Room, Stops, facts, document_refusal, gather_refusal, plan_refusal}
+use Rattle.plan_core.specs.Checks.{Facts, Ageing, Gathering, Room, RefusalOf, facts, document_refusal, gather_refusal, plan_refusal}
 use Rattle.plan_core.specs.Plans.{room_lines}
-use Rattle.plan_core.specs.Questions.{Asks, QuestionsRead, question_checks, question_read_checks}
+use Rattle.plan_core.specs.Questions.{QuestionOfChecks, QuestionsRead, question_checks, question_read_checks}
 use Rattle.plan_core.specs.declared.fault.PlanFault.{PlanFault}
 use Rattle.plan_core.specs.declared.fault.PlanFault.TheVariants as plan
 use Rattle.plan_core.specs.declared.fault.Refusal.{Refusal}
@@ -30,48 +30,48 @@ use Rattle.refusal_lines.specs.Lines.{refusal_line}
 use Rattle.refusal_lines.specs.Statuses.{status_of_refusal}
 use Rattle.nucleus_top.specs.Answers.{Store, Input, Shelf, IsStill}
 use Rattle.nucleus_top.specs.Planning.{NamesPending, TellsRefusal}
-use Rattle.nucleus_top.specs.Why.{IsQuestioned, TellsAsked, TellsWhy, WhysOn}
+use Rattle.nucleus_top.specs.Why.{IsQuestioned, TellsAsked, TellsWhy, WhyAnswerOn}
 use Rattle.nucleus_top.specs.declared.answer.Answer.{Answer}
 use Rattle.nucleus_top.specs.declared.answer.Answer.TheVariants.{Possible, Impossible, Pending, Unplanned, LibraryFailed, SourceFailed, NoMemory}
 use Rattle.nucleus_top.proofs.Looked.{TellsNone}
-use Rattle.nucleus_top.proofs.Proposals.{front_is_long, some_of, too_long}
+use Rattle.nucleus_top.proofs.Proposals.{prefix_is_long, some_of, too_long}
 use Rattle.nucleus_top.proofs.Unrefused.{only_library}
 
--- ---- a longer text asks as its front
+-- ---- a longer text asks as its prefix
 
-asks_of_long : (whole front : List ℕ) (is : front ≡ take 524289 whole) (long : 524288 < length whole) (f : Facts) (result : Result Question Refusal)
-    → Asks f (question_read_checks front) result → Asks f (question_read_checks whole) result
-asks_of_long whole front is long f (Ok q) asks = absurd (omega (arith, front_is_long whole front is long, asks.2.0.1.within))
-asks_of_long whole front is long f (Err a) (inl memory) = inl memory
-asks_of_long whole front is long f (Err a) (inr (inl fails)) = inr (inl (fails.0, too_long whole front is long fails.0 fails.1, fails.2))
-asks_of_long whole front is long f (Err a) (inr (inr passes)) = absurd (omega (arith, front_is_long whole front is long, passes.0.1.within))
+asks_of_long : (whole prefix : List ℕ) (is : prefix ≡ take 524289 whole) (long : 524288 < length whole) (f : Facts) (result : Result Question Refusal)
+    → QuestionOfChecks f (question_read_checks prefix) result → QuestionOfChecks f (question_read_checks whole) result
+asks_of_long whole prefix is long f (Ok q) asks = absurd (omega (arith, prefix_is_long whole prefix is long, asks.2.0.1.within))
+asks_of_long whole prefix is long f (Err a) (inl memory) = inl memory
+asks_of_long whole prefix is long f (Err a) (inr (inl fails)) = inr (inl (fails.0, too_long whole prefix is long fails.0 fails.1, fails.2))
+asks_of_long whole prefix is long f (Err a) (inr (inr passes)) = absurd (omega (arith, prefix_is_long whole prefix is long, passes.0.1.within))
 
 module _ (d : Device) (origin : Origin) (content : Option Content) (before after : ℕ) (result : Result Question Refusal) where
   -- the first 524,289 bytes are enough
-  whole_asks : (whole front : List ℕ) → front ≡ take 524289 whole → QuestionsRead d origin content before after front result → QuestionsRead d origin
+  whole_asks : (whole prefix : List ℕ) → prefix ≡ take 524289 whole → QuestionsRead d origin content before after prefix result → QuestionsRead d origin
       content before after whole result
-  whole_asks whole front is asks =
+  whole_asks whole prefix is asks =
       elim (cases_lt 524288 (length whole)) [
-        | inl long ↦ (asks.0, asks.1, asks.2, asks_of_long whole front is long (facts d origin content before after asks.0 asks.1 asks.2) result asks.3)
+        | inl long ↦ (asks.0, asks.1, asks.2, asks_of_long whole prefix is long (facts d origin content before after asks.0 asks.1 asks.2) result asks.3)
         | inr short ↦ subst (λ (bytes : List ℕ). QuestionsRead d origin content before after bytes result) (is ∙ take_all 524289 whole (omega (arith, short)))
             asks
       ]
 
   -- the whole document, where the source tells it, or what was read
-  document_asks : (left : Option (List ℕ)) (front : List ℕ) → IfSome left (λ whole. front ≡ take 524289 whole) → QuestionsRead d origin
-      content before after front result
+  document_asks : (left : Option (List ℕ)) (prefix : List ℕ) → IfSome left (λ whole. prefix ≡ take 524289 whole) → QuestionsRead d origin
+      content before after prefix result
       → (bytes : List ℕ) × ((whole : List ℕ) → left ≡ Some whole → bytes ≡ whole) × QuestionsRead d origin content before after bytes result
-  document_asks None front is asks = (front, λ whole told. cc, asks)
-  document_asks (Some document) front is asks = (document, λ whole told. cc, whole_asks document front is asks)
+  document_asks None prefix is asks = (prefix, λ whole told. cc, asks)
+  document_asks (Some document) prefix is asks = (document, λ whole told. cc, whole_asks document prefix is asks)
 
-pub questioned : (d : Device) (input : Input) (library : Shelf) (front : List ℕ) (result : Result Question Refusal)
+pub questioned : (d : Device) (input : Input) (library : Shelf) (prefix : List ℕ) (result : Result Question Refusal)
     → IsSome d.origin → d.pending ≡ None
-    → IfSome input.document (λ whole. front ≡ take 524289 whole)
-    → ((o : Origin) → d.origin ≡ Some o → QuestionsRead d o library.content library.faults_before library.faults_after front result)
+    → IfSome input.document (λ whole. prefix ≡ take 524289 whole)
+    → ((o : Origin) → d.origin ≡ Some o → QuestionsRead d o library.content library.faults_before library.faults_after prefix result)
     → IsQuestioned d input library result
-questioned d input library front result some idle is asks =
+questioned d input library prefix result some idle is asks =
     let origin = some_of d.origin some in
-    let document = document_asks d origin.0 library.content library.faults_before library.faults_after result input.document front is
+    let document = document_asks d origin.0 library.content library.faults_before library.faults_after result input.document prefix is
     (asks origin.0 origin.1) in
     record {
       idle = idle;
@@ -85,19 +85,19 @@ questioned d input library front result some idle is asks =
 -- ---- the answer that tells it
 
 module _ (d : Device) (input : Input) (library : Shelf) where
-  told_why : (question : Question) (a : Answer) → IsQuestioned d input library (Ok question) → TellsWhy question a → WhysOn d input library a
+  told_why : (question : Question) (a : Answer) → IsQuestioned d input library (Ok question) → TellsWhy question a → WhyAnswerOn d input library a
   told_why question Possible asked tells = record { question = question; questioned = asked; set = tells.0; valid = tells.1 }
   told_why question (Impossible e) asked tells = record { question = question; questioned = asked; explained = tells }
   told_why question NoMemory asked tells = tt
   told_why question a asked tells = absurd tells
 
   told_refusal : (refusal : Refusal) (a : Answer) → IsQuestioned d input library (Err refusal)
-      → (refusal ≡ Candidates gather.Library → Rose library.faults_before library.faults_after) → TellsRefusal refusal a → WhysOn d input library a
+      → (refusal ≡ Candidates gather.Library → Rose library.faults_before library.faults_after) → TellsRefusal refusal a → WhyAnswerOn d input library a
   told_refusal refusal (Unplanned r text) asked cause tells =
       record {
         questioned = subst (λ (x : Refusal). IsQuestioned d input library (Err x)) (sym tells.0) asked;
         text_is = subst (λ (x : Refusal). text ≡ refusal_line x) (sym tells.0) tells.1;
-        told = subst (λ (x : Refusal). status_of_refusal x ≢ status.Library) (sym tells.0) tells.2;
+        not_library = subst (λ (x : Refusal). status_of_refusal x ≢ status.Library) (sym tells.0) tells.2;
       }
   told_refusal refusal LibraryFailed asked cause tells =
       let is : refusal ≡ Candidates gather.Library = only_library refusal tells in
@@ -107,11 +107,11 @@ module _ (d : Device) (input : Input) (library : Shelf) where
 
   pub told_asked : (result : Result Question Refusal) (a : Answer) → IsQuestioned d input library result
       → (IsErrOf result (Candidates gather.Library) → Rose library.faults_before library.faults_after) → TellsAsked result a
-      → WhysOn d input library a
+      → WhyAnswerOn d input library a
   told_asked (Ok question) a asked cause tells = told_why question a asked tells
   told_asked (Err refusal) a asked cause tells = told_refusal refusal a asked (λ is. cause (cc)) tells
 
-  pub pending_why : (q : PendingPlan) (a : Answer) → d.pending ≡ Some q → input.rest ≡ input.document → NamesPending q.plan.id a → WhysOn d input library a
+  pub pending_why : (q : PendingPlan) (a : Answer) → d.pending ≡ Some q → input.rest ≡ input.document → NamesPending q.plan.id a → WhyAnswerOn d input library a
   pending_why q (Pending id) is same names = (same, (q, is, names))
   pending_why q NoMemory is same names = tt
   pending_why q a is same names = absurd names
@@ -139,7 +139,7 @@ told_asked_read (Err refusal) LibraryFailed tells is = cc
 told_asked_read (Err refusal) NoMemory tells is = cc
 told_asked_read (Err refusal) a tells is = absurd tells
 
-pub whys_none : (input : Input) (library : Shelf) (store : Store) → TellsNone (λ d. WhysOn d input library) store
+pub whys_none : (input : Input) (library : Shelf) (store : Store) → TellsNone (λ d. WhyAnswerOn d input library) store
 whys_none input library store = record { disk_fails = λ d on. on; no_entry = λ d on. on; harmed = λ d place on. on }
 
 -- ---- no refusal of it says that no version exists
@@ -160,27 +160,27 @@ room_is_other d document p (inr (some, inl groups)) is =
 room_is_other d document p (inr (some, inr rest)) is = absurd rest.1
 
 module _ (f : Facts) where
-  room_other : Stops f (Room ∷ []) (Plan plan.NoVersion) → ⊥
+  room_other : RefusalOf f (Room ∷ []) (Plan plan.NoVersion) → ⊥
   room_other (inl memory) = cc
   room_other (inr (inl fails)) = room_is_other f.device f.document fails.0 fails.1 fails.2
   room_other (inr (inr rest)) = absurd rest.1
 
-  gather_other : Stops f (Gathering ∷ Room ∷ []) (Plan plan.NoVersion) → ⊥
+  gather_other : RefusalOf f (Gathering ∷ Room ∷ []) (Plan plan.NoVersion) → ⊥
   gather_other (inl memory) = cc
   gather_other (inr (inl fails)) = gather_is_other fails.0 plan.NoVersion fails.2
   gather_other (inr (inr rest)) = room_other rest.1
 
-  age_other : Stops f (Ageing ∷ Gathering ∷ Room ∷ []) (Plan plan.NoVersion) → ⊥
+  age_other : RefusalOf f (Ageing ∷ Gathering ∷ Room ∷ []) (Plan plan.NoVersion) → ⊥
   age_other (inl memory) = cc
   age_other (inr (inl fails)) = let is = fails.1 in cc
   age_other (inr (inr rest)) = gather_other rest.1
 
-  open_other : Stops f question_checks (Plan plan.NoVersion) → ⊥
+  open_other : RefusalOf f question_checks (Plan plan.NoVersion) → ⊥
   open_other (inl memory) = cc
   open_other (inr (inl fails)) = let is = fails.2 in cc
   open_other (inr (inr rest)) = age_other rest.1
 
-  read_other : (bytes : List ℕ) → Stops f (question_read_checks bytes) (Plan plan.NoVersion) → ⊥
+  read_other : (bytes : List ℕ) → RefusalOf f (question_read_checks bytes) (Plan plan.NoVersion) → ⊥
   read_other bytes (inl memory) = cc
   read_other bytes (inr (inl fails)) = document_is_other fails.0 plan.NoVersion fails.2
   read_other bytes (inr (inr rest)) = open_other rest.1

@@ -16,12 +16,12 @@ use Rattle.session_boots.specs.Ends.{StopsAt}
 use Rattle.session_boots.specs.Traces.{StandsForMost}
 use Rattle.session_boots.proofs.Told.{stops_behind}
 use Rattle.session_serving.specs.Parts.{AllStandFor, Outside}
-use Rattle.nucleus_top.specs.Reopening.{CallsReopen, Reopens, ServesReopen}
-use Rattle.nucleus_top.specs.Serving.{IsServedOn, Parts, on_disk, slots_ghosts}
+use Rattle.nucleus_top.specs.Reopening.{CallsReopen, RecordsReopened, ServesReopen}
+use Rattle.nucleus_top.specs.Serving.{IsServedOn, IsHaltedOrServed, on_disk, slots_ghosts}
 
 module _ {D : Type 0} (may_leave : D → Image → Type 0) (boots : BootStartsStand slots_entries may_leave)
     (failures : FailuresStand slots_entries may_leave) where
-  reopens : (new : D) (p : SessionState) (h : List TraceEvent) → IsHistory p h → IsLeft slots_entries may_leave new p h → Reopens may_leave new p h
+  reopens : (new : D) (p : SessionState) (h : List TraceEvent) → IsHistory p h → IsLeft slots_entries may_leave new p h → RecordsReopened may_leave new p h
   reopens new p h history left = record {
     boots = λ before e m stood start. boots new p h before e m history left stood start;
     failures = λ before e name s x stood start f image leaves. failures new p h before e name s x history left stood start f image leaves;
@@ -40,7 +40,7 @@ module _ {D : Type 0} (disk : a_disk.Ghosts D) where
   in_doubt now p before g (inr stops) = inr (stops_behind before g stops)
 
   doubt_of : (content : Option Content) (most : ℕ) (old new : Outside D) (p : SessionState) (status : Status) (h : List TraceEvent)
-      → Parts disk content most old new p status h
+      → IsHaltedOrServed disk content most old new p status h
       → AllStandFor disk slots_ghosts new.disk (state_after p h).device ⊎ StopsAt h
   doubt_of content most old new p status h (inl halted) = halted.0.sure.doubt
   doubt_of content most old new p status h (inr (before, g, to, is, answered, waiting, library, finished, served)) =
@@ -49,7 +49,7 @@ module _ {D : Type 0} (disk : a_disk.Ghosts D) where
 
   pub serves_reopen : BootStartsStand slots_entries disk.may_leave → FailuresStand slots_entries disk.may_leave → ServesReopen disk
   serves_reopen boots failures content old new result d turns s =
-      reopens disk.may_leave boots failures new.disk s.place s.history s.driven.history (record {
+      reopens disk.may_leave boots failures new.disk s.state s.history s.driven.history (record {
         stands = λ c may. subst (λ (e : Device). StandsForMost slots_entries e (records_of s.history) c) (sym s.driven.device_is) (s.most c may);
-        doubt = doubt_of content turns (on_disk s.from old) new s.place result s.history s.call.parts;
+        doubt = doubt_of content turns (on_disk s.from old) new s.state result s.history s.call.parts;
       })

@@ -15,7 +15,7 @@ use Rattle.plan_core.specs.declared.fault.PlanFault.TheVariants as planning
 use Rattle.plan_core.specs.declared.fault.Refusal.TheVariants as refusal
 use Rattle.artifact_store.specs.declared.fault.StageFault.TheVariants as stage
 use Rattle.histories.specs.TraceEvents.{records_of}
-use Rattle.admission.specs.Requests.{Requests, TakesBy}
+use Rattle.admission.specs.Requests.{AskOutcome, TakesBy}
 use Rattle.admission.specs.Takes.{HasLibraryFailed}
 use Rattle.admission.specs.declared.ask.Ask.TheVariants as ask
 use Rattle.admission.specs.declared.fault.Declined.{Declined}
@@ -25,8 +25,9 @@ use Rattle.law_whole.specs.Requested.{ChangesKeepAll, IsChangePlan, KeepsAll, Lo
 use Rattle.session.proofs.Accepted.{taken_as}
 use Rattle.session.specs.Calls.{IsOrEdge}
 use Rattle.session.specs.Declines.{status_of_declined}
-use Rattle.session.specs.Documents.{Follows, IsPutOff}
-use Rattle.session.specs.Endings.{Ending, Closes, Restarts, Reboots, Fails, Breaks, Forgets, Starves, Declines, Full, Idle, IsBegun, status_of_ending}
+use Rattle.session.specs.Documents.{TakenEnding, IsPutOff}
+use Rattle.session.specs.Endings.{Ending, ByClose, ByRestart, ByReboot, ByDiskFault, BySinkFault, WantAfter, WantBefore, ByDecline, Full, Idle}
+use Rattle.session.specs.Endings.{IsBegun, status_of_ending}
 use Rattle.nucleus_top.specs.Requested.{ChangesMoveOneItem, LocalsMoveOneGroup, NeverAnswers}
 
 -- ---- which statuses never come
@@ -38,22 +39,22 @@ three status.Artifact = true
 three s = false
 
 of_begun : (e : Ending) → IsBegun e → three (status_of_ending e) ≡ false
-of_begun (Closes outcome.Successful) begun = refl
-of_begun (Closes outcome.RollbackComplete) begun = refl
-of_begun (Closes outcome.RollbackNotRequested) begun = refl
-of_begun (Closes outcome.UnableToRollback) begun = refl
-of_begun (Restarts id) begun = refl
-of_begun (Reboots id) begun = refl
-of_begun Fails begun = refl
-of_begun Breaks begun = refl
-of_begun Forgets begun = refl
-of_begun Starves begun = absurd begun
-of_begun (Declines x) begun = absurd begun
+of_begun (ByClose outcome.Successful) begun = refl
+of_begun (ByClose outcome.RollbackComplete) begun = refl
+of_begun (ByClose outcome.RollbackNotRequested) begun = refl
+of_begun (ByClose outcome.UnableToRollback) begun = refl
+of_begun (ByRestart id) begun = refl
+of_begun (ByReboot id) begun = refl
+of_begun ByDiskFault begun = refl
+of_begun BySinkFault begun = refl
+of_begun WantAfter begun = refl
+of_begun WantBefore begun = absurd begun
+of_begun (ByDecline x) begun = absurd begun
 of_begun (Full at) begun = absurd begun
 of_begun Idle begun = absurd begun
 
 of_off : (start : ℕ → ℕ) (plan : Plan) (e : Ending) → IsPutOff start plan e → three (status_of_ending e) ≡ false
-of_off start plan Starves off = refl
+of_off start plan WantBefore off = refl
 of_off start plan (Full at) off = refl
 of_off start plan e off = absurd off
 
@@ -90,7 +91,7 @@ module _ (d : Device) (o : Origin) (name bytes : List ℕ) where
   of_declined (Unasked (unasked.NoComponent c)) keeps never = refl
   of_declined (Unasked (unasked.NotListed c)) keeps never = refl
 
-  of_taken : (start : ℕ → ℕ) (taken : Result code.Plan Declined) (ending : Ending) (records : List Record) → Follows start taken ending records
+  of_taken : (start : ℕ → ℕ) (taken : Result code.Plan Declined) (ending : Ending) (records : List Record) → TakenEnding start taken ending records
       → KeepsAll d o name bytes taken → (HasLibraryFailed taken → ⊥) → three (status_of_ending ending) ≡ false
   of_taken start (Ok plan) ending records (inl off) keeps never = of_off start (plan_view plan) ending off.0
   of_taken start (Ok plan) ending records (inr on) keeps never = of_begun ending on.0
@@ -115,7 +116,7 @@ module _ {D : Type 0} (may_leave : D → Image → Type 0) (moment : D → ℕ) 
   pub locals_move_one_group : LocalsMoveOneList → LocalsMoveOneGroup may_leave moment left_since faults
   locals_move_one_group law old new old_list new_list printed result d start library bytes h plan rest is =
       let t = taken_as start h.call.0.ending (records_of h.call.0.history) rest plan is h.taken h.call.1 in
-      let takes = subst (λ (r : Result code.Plan Declined). TakesBy (Requests ask.Local bytes) d h.origin library.content library.faults_before
+      let takes = subst (λ (r : Result code.Plan Declined). TakesBy (AskOutcome ask.Local bytes) d h.origin library.content library.faults_before
       library.faults_after r) t.taken_is h.takes in
       let moves = law d h.origin library.content library.faults_before library.faults_after bytes t.plan takes in
       record {

@@ -16,13 +16,13 @@ use Rattle.device.proofs.Course.{run}
 use Rattle.session_boots.specs.Traces.{StandsForMost}
 use Rattle.session_boots.proofs.Prefixes.{none_most, run_on}
 use Rattle.nucleus_top.specs.Lasting.{IsTaken}
-use Rattle.nucleus_top.specs.Begun.{Begins, IsNoneOrBegun, begun_device}
-use Rattle.nucleus_top.specs.Opening.{Stands}
+use Rattle.nucleus_top.specs.Begun.{ImageBegun, IsNoneOrBegun, begun_device}
+use Rattle.nucleus_top.specs.Opening.{IsImageOf}
 use Rattle.nucleus_top.specs.Crashes.{AllowedOrPrefix, AllowedOrSame}
-use Rattle.nucleus_top.specs.Series.{AcknowledgedLast, AllStayMet, AreKept, CallsRaise, DrivesEnd, DrivesGoOn, FirstBegins, Follow}
-use Rattle.nucleus_top.specs.Series.{IsFrontOf, IsLeftOn, IsReached, LeftAs}
-use Rattle.nucleus_top.specs.Series.{LeftBy, Made, TurnedEnd}
-use Rattle.nucleus_top.specs.Series.{TurnedGoOn, keeps_none, stopped}
+use Rattle.nucleus_top.specs.Series.{AcknowledgedLast, AllStayMet, AreKept, CallsRaise, DrivesEnd, DrivesGoOn, FirstBegins, IsSeries}
+use Rattle.nucleus_top.specs.Series.{IsPrefixOf, IsLeftOn, IsReached, LeftAs}
+use Rattle.nucleus_top.specs.Series.{LeftBy, MadeCall, RefusedEnd}
+use Rattle.nucleus_top.specs.Series.{RefusedGoOn, keeps_none, stopped}
 use Rattle.nucleus_top.proofs.Crashes.{means_sound}
 use Rattle.nucleus_top.proofs.Lasting.{runs_lose_nothing}
 use Rattle.nucleus_top.proofs.Standing.{none_stands, same_device}
@@ -31,7 +31,7 @@ use Rattle.nucleus_top.proofs.Standing.{none_stands, same_device}
 
 begun_most : (o : Origin) (image : Image) → IsNoneOrBegun o image → StandsForMost slots_entries no_device (Genesis o ∷ []) image
 begun_most o image (inl none) = record {
-  front = [];
+  prefix = [];
   rest = Genesis o ∷ [];
   split = refl;
   few = omega arith;
@@ -40,7 +40,7 @@ begun_most o image (inl none) = record {
   stands = none_stands image none;
 }
 begun_most o image (inr stands) = record {
-  front = Genesis o ∷ [];
+  prefix = Genesis o ∷ [];
   rest = [];
   split = refl;
   few = omega arith;
@@ -49,7 +49,7 @@ begun_most o image (inr stands) = record {
   stands = stands;
 }
 
-pub inits_begin : (o : Origin) (old new : Image) → Begins o old new → Stands old no_device × StandsForMost slots_entries no_device (Genesis o ∷ []) new
+pub inits_begin : (o : Origin) (old new : Image) → ImageBegun o old new → IsImageOf old no_device × StandsForMost slots_entries no_device (Genesis o ∷ []) new
 inits_begin o old new begins = (none_stands old begins.none, begun_most o new begins.within.here)
 
 pub none_met : Met no_device
@@ -57,11 +57,12 @@ none_met = record { groups = tt; items = refl; pending = tt }
 
 -- ---- lists of calls
 
-pub others_go_on : (d e : Device) (before : List Made) (old new : Image) → Follow d before → LeftBy d before old → Stands old e → Stands new e
-    → Follow d (keeps_none e ∷ before) × LeftBy d (keeps_none e ∷ before) new
+pub others_go_on : (d e : Device) (before : List MadeCall) (old new : Image) → IsSeries d before → LeftBy d before old → IsImageOf old e → IsImageOf new e
+    → IsSeries d (keeps_none e ∷ before) × LeftBy d (keeps_none e ∷ before) new
 others_go_on d e before old new follow left first then = ((follow, (old, left, first)), none_most slots_entries e new then)
 
-reached : (d : Device) (calls : List Made) (image : Image) (kept : List Record) (device : Device) → AreKept calls kept → Stands image device → Run d kept device
+reached : (d : Device) (calls : List MadeCall) (image : Image) (kept : List Record) (device : Device) → AreKept calls kept → IsImageOf image device →
+    Run d kept device
     → (Met d → AllStayMet calls → Met device) → IsReached d calls image
 reached d calls image kept device are stands along met = record {
   kept = kept;
@@ -75,7 +76,7 @@ reached d calls image kept device are stands along met = record {
 }
 
 -- one more call, where those before it reach so
-module _ (d : Device) (c : Made) (before : List Made) (image : Image) where
+module _ (d : Device) (c : MadeCall) (before : List MadeCall) (image : Image) where
   -- the image was there before it
   unmoved : IsReached d before image → (IsTrue c.ended → ⊥) → IsReached d (c ∷ before) image
   unmoved was inside =
@@ -89,27 +90,27 @@ module _ (d : Device) (c : Made) (before : List Made) (image : Image) where
       ) was.stands was.run
       (λ met each. was.met met each.1)
 
-  -- a front of its records was kept
-  moved : (start : Image) → IsReached d before start → Stands start c.device → (front rest : List Record) (device : Device) → IsFrontOf c front rest →
-      Run c.device front device → Stands image device
+  -- a prefix of its records was kept
+  moved : (start : Image) → IsReached d before start → IsImageOf start c.device → (prefix rest : List Record) (device : Device) → IsPrefixOf c prefix rest →
+      Run c.device prefix device → IsImageOf image device
       → IsReached d (c ∷ before) image
-  moved start was stood front rest device is along stands =
+  moved start was stood prefix rest device is along stands =
       let same : was.device ≡ c.device = same_device start was.device c.device was.stands stood in
-      reached d (c ∷ before) image (was.kept ++ front) device (was.kept, front, rest, was.are, is, refl) stands
-      (run_on d was.kept c.device front device (subst (λ (e : Device). Run d was.kept e) same was.run) along)
-      (λ met each. each.0 (subst Met same (was.met met each.1)) front rest device is.split along)
+      reached d (c ∷ before) image (was.kept ++ prefix) device (was.kept, prefix, rest, was.are, is, refl) stands
+      (run_on d was.kept c.device prefix device (subst (λ (e : Device). Run d was.kept e) same was.run) along)
+      (λ met each. each.0 (subst Met same (was.met met each.1)) prefix rest device is.split along)
 
-  reach_on : ((i : Image) → LeftBy d before i → IsReached d before i) → (start : Image) → LeftBy d before start → Stands start c.device → (ended : Bool) →
+  reach_on : ((i : Image) → LeftBy d before i → IsReached d before i) → (start : Image) → LeftBy d before start → IsImageOf start c.device → (ended : Bool) →
       c.ended ≡ ended
       → LeftAs ended (LeftBy d before) c.device c.records image → IsReached d (c ∷ before) image
   reach_on was start first stood true is left =
-      moved start (was start first) stood left.front left.rest left.device (record { split = left.split; few = λ ended. left.few }) left.run left.stands
+      moved start (was start first) stood left.prefix left.rest left.device (record { split = left.split; few = λ ended. left.few }) left.run left.stands
   reach_on was start first stood false is (inl left) = unmoved (was image left) (λ ended. false≢true (sym is ∙ ended))
   reach_on was start first stood false is (inr left) =
-      moved start (was start first) stood left.front left.rest left.device
+      moved start (was start first) stood left.prefix left.rest left.device
       (record { split = left.split; few = λ ended. absurd (false≢true (sym is ∙ ended)) }) left.run left.stands
 
-pub calls_reach : (d : Device) (calls : List Made) (image : Image) → Follow d calls → LeftBy d calls image → IsReached d calls image
+pub calls_reach : (d : Device) (calls : List MadeCall) (image : Image) → IsSeries d calls → LeftBy d calls image → IsReached d calls image
 calls_reach d [] image follow left = reached d [] image [] d refl left refl (λ met each. met)
 calls_reach d (c ∷ before) image follow left = reach_on d c before image (λ i was. calls_reach d before i follow.0 was) follow.1.0 follow.1.1 follow.1.2
     c.ended refl left
@@ -134,16 +135,16 @@ module _ {D : Type 0} {is_modelled : Bool} {seen : D → Image} {may_leave : D �
     (laws : DiskLaws is_modelled seen may_leave moment left_since) where
   pub drives_go_on : DrivesGoOn may_leave moment left_since
   drives_go_on d e before records old new begins leaves =
-      let call : Made = stopped e records in (
+      let call : MadeCall = stopped e records in (
         (begins.follow, (begins.start, begins.left begins.start begins.is_one, begins.stands)),
         weaker laws old new (AllowedOrPrefix (may_leave old) e records) (LeftBy d (call ∷ before))
-            (λ c was. ⊎_elim (λ left. inl (begins.left c left)) (λ front. inr front) was) leaves,
+            (λ c was. ⊎_elim (λ left. inl (begins.left c left)) (λ prefix. inr prefix) was) leaves,
       )
 
-  pub turned_go_on : TurnedGoOn may_leave moment left_since seen
-  turned_go_on d before old new follow left leaves = record {
+  pub refused_go_on : RefusedGoOn may_leave moment left_since seen
+  refused_go_on d before old new follow left leaves = record {
     later = leaves.later;
-    each = λ c was. by (laws.told new (moment old) c was) c (leaves.each c was);
+    each = λ c was. by (laws.modelled new (moment old) c was) c (leaves.each c was);
     joins = leaves.joins;
     keeps = leaves.keeps;
   }
@@ -164,6 +165,6 @@ module _ {D : Type 0} {is_modelled : Bool} {seen : D → Image} {may_leave : D �
   pub drives_end : DrivesEnd may_leave
   drives_end d e before records old new begins ends = ((begins.follow, (begins.start, begins.left begins.start begins.is_one, begins.stands)), ends)
 
-  pub turned_end : TurnedEnd may_leave is_modelled seen
-  turned_end d e before old new told follow left stood keeps =
+  pub refused_end : RefusedEnd may_leave is_modelled seen
+  refused_end d e before old new told follow left stood keeps =
       ((follow, (seen old, left (seen old) (laws.reads old told), stood)), λ c was. none_most slots_entries e c ((keeps c was).device e stood))

@@ -30,30 +30,31 @@ use Rattle.histories.specs.Once.{TakesOnce}
 use Rattle.histories.specs.States.{SessionState, state_after}
 use Rattle.session_boots.specs.Traces.{StandsForMost}
 use Rattle.session.specs.Endings.{Ending}
-use Rattle.session_serving.specs.Rounds.{AreHandled, Fails, Handled, Last, Round, Shut, Spent, Starves, Stops, Took, Waited, records_of_last, records_of_rounds}
+use Rattle.session_serving.specs.Rounds.{AreHandled, InboxFailed, Handled, LastRound, Round, Shut, Spent, WantOfMemory, StoppedBy, Took, Waited}
+use Rattle.session_serving.specs.Rounds.{records_of_last, records_of_rounds}
 use Rattle.nucleus_top.proofs.Meeting.{brought_stay_met, once_brings, once_wholes, read_brings, read_wholes}
 use Rattle.nucleus_top.proofs.Through.{run_begun}
-use Rattle.step_runner.specs.Entries.{Told as Heard}
+use Rattle.step_runner.specs.Entries.{Told}
 use Rattle.components.specs.Components.{Components}
 use Rattle.histories.specs.TraceEvents.{TraceEvent, records_of}
 use Rattle.session_serving.specs.Documents.{IsDeployedThere}
 use Rattle.session_serving.specs.Parts.{AreOfFiles, Outside}
 use Rattle.session_serving.specs.Places.{IsBegun}
-use Rattle.session_serving.specs.Served.{EndsAs, Finishes, IsSetServed, IsWholeCall}
+use Rattle.session_serving.specs.Served.{EndsAs, IsResumedOrIdle, IsSetServed, IsWholeCall}
 use Rattle.nucleus_top.specs.Meeting.{StayMet}
 use Rattle.nucleus_top.specs.Serving.{slots_ghosts}
 use Rattle.nucleus_top.proofs.Crashes.{entries_stay}
-use Rattle.nucleus_top.proofs.Driven.{begun_as, begun_front, no_world}
+use Rattle.nucleus_top.proofs.Driven.{begun_as, begun_stage, no_world}
 
 -- only the journal's two files matter to its entries
 pub slots_own : AreOfFiles slots_files slots_entries
 slots_own a b payloads same entries = entries_stay a b payloads same entries
 
 -- a call that serves begins with no component and no child
-pub serving_begins : (turns : ℕ) (d : Device) (world : Components) (told : Heard) (living : List ℕ) → world ≡ no_world → living ≡ [] →
+pub serving_begins : (turns : ℕ) (d : Device) (world : Components) (told : Told) (living : List ℕ) → world ≡ no_world → living ≡ [] →
     IsBegun (begun_as true turns d told) turns d world told living
 serving_begins turns d world told living is none =
-    record { stage = begun_front true turns d world told living is none; start = refl; serves = refl; turns_are = refl }
+    record { stage = begun_stage true turns d world told living is none; start = refl; serves = refl; turns_are = refl }
 
 -- ---- what meets its groups and its items does at each record
 
@@ -89,13 +90,13 @@ rounds_bring law content (Took x ∷ rounds) d n e m sound some h =
     )
 
 module _ {D : Type 0} (content : Option Content) (most : ℕ) (rounds : List Round) (result : Status) (old new : Outside D) (d : Device) where
-  last_brings : TakenAreMet → (l : Last) → IsSound d → IsSome d.origin → EndsAs (IsDeployedThere content) most rounds l result old new d →
+  last_brings : TakenAreMet → (l : LastRound) → IsSound d → IsSome d.origin → EndsAs (IsDeployedThere content) most rounds l result old new d →
       BringMet d (records_of_last l)
   last_brings law Spent sound some why = tt
   last_brings law Shut sound some why = tt
-  last_brings law (Stops x) sound some why = there_brings law content x d why.device sound some why.clause
-  last_brings law Fails sound some why = tt
-  last_brings law Starves sound some why = tt
+  last_brings law (StoppedBy x) sound some why = there_brings law content x d why.device sound some why.clause
+  last_brings law InboxFailed sound some why = tt
+  last_brings law WantOfMemory sound some why = tt
 
 module _ {D : Type 0} (disk : a_disk.Ghosts D) (content : Option Content) (most : ℕ) (old new : Outside D) (p : SessionState) (h : List TraceEvent)
     (result : Status) where
@@ -150,13 +151,14 @@ rounds_whole trees law content (Took x ∷ rounds) d n e m sound some h =
     )
 
 module _ {D : Type 0} (content : Option Content) (most : ℕ) (rounds : List Round) (result : Status) (old new : Outside D) (d : Device) where
-  last_wholes : TreesAreRegular → TakenAreWhole → (l : Last) → IsSound d → IsSome d.origin → EndsAs (IsDeployedThere content) most rounds l result old new d →
+  last_wholes : TreesAreRegular → TakenAreWhole → (l : LastRound) → IsSound d → IsSome d.origin →
+      EndsAs (IsDeployedThere content) most rounds l result old new d →
       BringWhole d (records_of_last l)
   last_wholes trees law Spent sound some why = tt
   last_wholes trees law Shut sound some why = tt
-  last_wholes trees law (Stops x) sound some why = there_wholes trees law content x d why.device sound some why.clause
-  last_wholes trees law Fails sound some why = tt
-  last_wholes trees law Starves sound some why = tt
+  last_wholes trees law (StoppedBy x) sound some why = there_wholes trees law content x d why.device sound some why.clause
+  last_wholes trees law InboxFailed sound some why = tt
+  last_wholes trees law WantOfMemory sound some why = tt
 
 module _ {D : Type 0} (disk : a_disk.Ghosts D) (content : Option Content) (most : ℕ) (old new : Outside D) (p : SessionState) (h : List TraceEvent)
     (result : Status) where
@@ -171,12 +173,12 @@ module _ {D : Type 0} (disk : a_disk.Ghosts D) (content : Option Content) (most 
       (run_begun (records_of_rounds s.rounds) p.device s.behind run some) s.ends))
 
 -- a pending deployment accepts no plan, and where none is pending there is no record
-finished_once : (d : Device) (records : List Record) (behind : Device) (lines : List ℕ) (ending : Ending) → Finishes d records behind lines ending →
+finished_once : (d : Device) (records : List Record) (behind : Device) (lines : List ℕ) (ending : Ending) → IsResumedOrIdle d records behind lines ending →
     TakesOnce true records
 finished_once d records behind lines ending (inl r) = r.1.once
 finished_once d records behind lines ending (inr none) = subst (TakesOnce true) (sym none.1) tt
 
-module _ {D : Type 0} (disk : a_disk.Ghosts D) (content : Option Content) (old new : Outside D) (turns : ℕ) (d : Device) (told : Heard) (h : List TraceEvent)
+module _ {D : Type 0} (disk : a_disk.Ghosts D) (content : Option Content) (old new : Outside D) (turns : ℕ) (d : Device) (told : Told) (h : List TraceEvent)
     (result : Status) (call : IsWholeCall disk slots_ghosts (IsDeployedThere content) turns old new (begun_as true turns d told) h result)
     (sound : IsSound d) (some : IsSome d.origin) where
   whole_brings : TakenAreMet → BringMet d (records_of h)

@@ -23,39 +23,39 @@ use Rattle.histories.specs.TraceEvents.{TraceEvent, records_of}
 use Rattle.session_boots.proofs.Prefixes.{run_on}
 use Rattle.session_boots.specs.Traces.{StandsForMost}
 use Rattle.session.proofs.Statuses.{declined_library}
-use Rattle.session.specs.Documents.{Follows}
-use Rattle.session.specs.Endings.{Ending, Breaks, Closes, Declines, Fails as DiskFails, Forgets, Full, Idle, Reboots, Restarts, Starves as Starved}
+use Rattle.session.specs.Documents.{TakenEnding}
+use Rattle.session.specs.Endings.{Ending, BySinkFault, ByClose, ByDecline, ByDiskFault, WantAfter, Full, Idle, ByReboot, ByRestart, WantBefore}
 use Rattle.session.specs.Endings.{status_of_ending}
 use Rattle.session.specs.Parts.{EndsCall}
-use Rattle.session_serving.specs.Documents.{EndsWith, IsDeployedThere}
+use Rattle.session_serving.specs.Documents.{IsOwnOrEdge, IsDeployedThere}
 use Rattle.session_serving.specs.Parts.{Outside}
-use Rattle.session_serving.specs.Rounds.{AreHandled, Fails, Handled, Last, Round, Shut, Spent, Starves, Stops, Took, Waited}
-use Rattle.session_serving.specs.Rounds.{records_of_last, records_of_rounds, round_of_last, untold_of_last}
+use Rattle.session_serving.specs.Rounds.{AreHandled, InboxFailed, Handled, LastRound, Round, Shut, Spent, WantOfMemory, StoppedBy, Took, Waited}
+use Rattle.session_serving.specs.Rounds.{records_of_last, records_of_rounds, round_of_last, unprinted_of_last}
 use Rattle.session_serving.specs.Served.{EndsAs, IsHalted, IsSetServed}
-use Rattle.nucleus_top.proofs.Printed.{told_front}
-use Rattle.nucleus_top.specs.Lasting.{Lasts}
-use Rattle.nucleus_top.specs.Opening.{Stands}
-use Rattle.nucleus_top.specs.Serving.{EndsInOrder, IsInOrder, Parts, RoseBy, is_library, library_refusals, slots_ghosts, untold_of}
+use Rattle.nucleus_top.proofs.Printed.{told_prefix}
+use Rattle.nucleus_top.specs.Lasting.{AreLasting}
+use Rattle.nucleus_top.specs.Opening.{IsImageOf}
+use Rattle.nucleus_top.specs.Serving.{EndsInOrder, IsInOrder, IsHaltedOrServed, RoseBy, is_library, library_refusals, slots_ghosts, unprinted_of}
 
 -- ---- how often the library failed
 
 -- an ending with the status of the library is that of a document that is refused since that failed
-ending_library : (e : Ending) → status_of_ending e ≡ statuses.Library → (d : Declined) × (e ≡ Declines d) × HasLibraryFailed (Err d)
-ending_library (Closes outcome.Successful) is = absurd cc
-ending_library (Closes outcome.RollbackComplete) is = absurd cc
-ending_library (Closes outcome.RollbackNotRequested) is = absurd cc
-ending_library (Closes outcome.UnableToRollback) is = absurd cc
-ending_library (Restarts id) is = absurd cc
-ending_library (Reboots id) is = absurd cc
-ending_library DiskFails is = absurd cc
-ending_library Breaks is = absurd cc
-ending_library Forgets is = absurd cc
-ending_library Starved is = absurd cc
-ending_library (Declines d) is = (d, refl, declined_library d is)
+ending_library : (e : Ending) → status_of_ending e ≡ statuses.Library → (d : Declined) × (e ≡ ByDecline d) × HasLibraryFailed (Err d)
+ending_library (ByClose outcome.Successful) is = absurd cc
+ending_library (ByClose outcome.RollbackComplete) is = absurd cc
+ending_library (ByClose outcome.RollbackNotRequested) is = absurd cc
+ending_library (ByClose outcome.UnableToRollback) is = absurd cc
+ending_library (ByRestart id) is = absurd cc
+ending_library (ByReboot id) is = absurd cc
+ending_library ByDiskFault is = absurd cc
+ending_library BySinkFault is = absurd cc
+ending_library WantAfter is = absurd cc
+ending_library WantBefore is = absurd cc
+ending_library (ByDecline d) is = (d, refl, declined_library d is)
 ending_library (Full at) is = absurd cc
 ending_library Idle is = absurd cc
 
-taken_failed : (start : ℕ → ℕ) (taken : Result code.Plan Declined) (d : Declined) (records : List Record) → Follows start taken (Declines d) records →
+taken_failed : (start : ℕ → ℕ) (taken : Result code.Plan Declined) (d : Declined) (records : List Record) → TakenEnding start taken (ByDecline d) records →
     HasLibraryFailed (Err d) → HasLibraryFailed taken
 taken_failed start (Err x) d records follows failed = ⊎_elim
     (λ is. let same : d ≡ x = cc in subst (λ (y : Declined). HasLibraryFailed (Err y)) same failed)
@@ -65,7 +65,7 @@ taken_failed start (Ok plan) d records follows failed = absurd (⊎_elim (λ off
 document_library : (content : Option Content) (x : Handled) → IsDeployedThere content x → x.status ≡ statuses.Library → Rose x.before x.after
 document_library content x c is =
     let e = ending_library c.ending (sym c.status ∙ is) in
-    c.library_cause (taken_failed x.start c.taken e.0 x.records (subst (λ (y : Ending). Follows x.start c.taken y x.records) e.1 c.follows) e.2)
+    c.library_cause (taken_failed x.start c.taken e.0 x.records (subst (λ (y : Ending). TakenEnding x.start c.taken y x.records) e.1 c.follows) e.2)
 
 status_library : (s : Status) → is_library s ≡ true → s ≡ statuses.Library
 status_library statuses.Library is = refl
@@ -109,58 +109,58 @@ refusals_append (Took x ∷ a) b =
 -- ---- the last round
 
 -- a status with which a document ends the call gives up, or restarts
-no_end : (own s : Status) → EndsWith own s → gives_up s ≡ false → is_restart s ≡ false → ⊥
+no_end : (own s : Status) → IsOwnOrEdge own s → gives_up s ≡ false → is_restart s ≡ false → ⊥
 no_end own s (inl is) up restart = ⊎_elim (λ own_up. false≢true (sym up ∙ (ap gives_up is.0 ∙ own_up)))
     (λ own_restart. false≢true (sym restart ∙ (ap is_restart is.0 ∙ own_restart))) is.1
 no_end own s (inr edge) up restart = false≢true (sym up ∙ ap gives_up edge)
 
-ends_call : (own s : Status) → EndsWith own s → EndsCall s
+ends_call : (own s : Status) → IsOwnOrEdge own s → EndsCall s
 ends_call own s (inl is) = ⊎_elim (λ up. inl (ap gives_up is.0 ∙ up)) (λ restart. inr (ap is_restart is.0 ∙ restart)) is.1
 ends_call own s (inr edge) = inl (ap gives_up edge)
 
 module _ {D : Type 0} (content : Option Content) (most : ℕ) (rounds : List Round) (s : Status) (old new : Outside D) (d : Device) where
-  of_last : (l : Last) → EndsAs (IsDeployedThere content) most rounds l s old new d → RoseBy (library_refusals (round_of_last l)) old.library new.library
+  of_last : (l : LastRound) → EndsAs (IsDeployedThere content) most rounds l s old new d → RoseBy (library_refusals (round_of_last l)) old.library new.library
   of_last Spent why = same_by old.library new.library why.2.library
   of_last Shut why = same_by old.library new.library why.1.library
-  of_last (Stops x) why = rose_on (if is_library x.status then 1 else 0) 0 old.library new.library new.library
+  of_last (StoppedBy x) why = rose_on (if is_library x.status then 1 else 0) 0 old.library new.library new.library
       (subst (λ (k : ℕ). RoseBy (if is_library x.status then 1 else 0) k new.library) why.before
       (subst (λ (k : ℕ). RoseBy (if is_library x.status then 1 else 0) x.before k) why.after (of_document content x why.clause)))
       (same_by new.library new.library refl)
-  of_last Fails why = same_by old.library new.library why.1.library
-  of_last Starves why = same_by old.library new.library why.1.library
+  of_last InboxFailed why = same_by old.library new.library why.1.library
+  of_last WantOfMemory why = same_by old.library new.library why.1.library
 
   -- with neither it is over: the inbox is closed, or was asked as often as it is to be
-  goes_through : (l : Last) → EndsAs (IsDeployedThere content) most rounds l s old new d → gives_up s ≡ false → is_restart s ≡ false →
+  goes_through : (l : LastRound) → EndsAs (IsDeployedThere content) most rounds l s old new d → gives_up s ≡ false → is_restart s ≡ false →
       (l ≡ Shut) ⊎ (l ≡ Spent)
   goes_through Spent why up restart = inr refl
   goes_through Shut why up restart = inl refl
-  goes_through (Stops x) why up restart = absurd (no_end x.status s why.with_status up restart)
-  goes_through Fails why up restart = absurd (false≢true (sym up ∙ ap gives_up why.0))
-  goes_through Starves why up restart = absurd (false≢true (sym up ∙ ap gives_up why.0))
+  goes_through (StoppedBy x) why up restart = absurd (no_end x.status s why.with_status up restart)
+  goes_through InboxFailed why up restart = absurd (false≢true (sym up ∙ ap gives_up why.0))
+  goes_through WantOfMemory why up restart = absurd (false≢true (sym up ∙ ap gives_up why.0))
 
-  shut_done : (l : Last) → EndsAs (IsDeployedThere content) most rounds l s old new d → l ≡ Shut → s ≡ statuses.Done
+  shut_done : (l : LastRound) → EndsAs (IsDeployedThere content) most rounds l s old new d → l ≡ Shut → s ≡ statuses.Done
   shut_done Spent why is = absurd cc
   shut_done Shut why is = why.0
-  shut_done (Stops x) why is = absurd cc
-  shut_done Fails why is = absurd cc
-  shut_done Starves why is = absurd cc
+  shut_done (StoppedBy x) why is = absurd cc
+  shut_done InboxFailed why is = absurd cc
+  shut_done WantOfMemory why is = absurd cc
 
-  spent_all : (l : Last) → EndsAs (IsDeployedThere content) most rounds l s old new d → l ≡ Spent →
+  spent_all : (l : LastRound) → EndsAs (IsDeployedThere content) most rounds l s old new d → l ≡ Spent →
       (length rounds ≡ most) × ((s ≡ statuses.TurnsOver) ⊎ (s ≡ statuses.Edge))
   spent_all Spent why is = (why.0, why.1)
   spent_all Shut why is = absurd cc
-  spent_all (Stops x) why is = absurd cc
-  spent_all Fails why is = absurd cc
-  spent_all Starves why is = absurd cc
+  spent_all (StoppedBy x) why is = absurd cc
+  spent_all InboxFailed why is = absurd cc
+  spent_all WantOfMemory why is = absurd cc
 
-  done_shuts : (l : Last) → EndsAs (IsDeployedThere content) most rounds l s old new d → s ≡ statuses.Done → l ≡ Shut
+  done_shuts : (l : LastRound) → EndsAs (IsDeployedThere content) most rounds l s old new d → s ≡ statuses.Done → l ≡ Shut
   done_shuts l why is = ⊎_elim (λ shut. shut) (λ spent. absurd (neither (spent_all l why spent).1 is)) (goes_through l why (ap gives_up is) (ap is_restart is))
     where
       neither : (s ≡ statuses.TurnsOver) ⊎ (s ≡ statuses.Edge) → s ≡ statuses.Done → ⊥
       neither (inl over) done = cc
       neither (inr edge) done = cc
 
-  over_spends : (l : Last) → EndsAs (IsDeployedThere content) most rounds l s old new d → s ≡ statuses.TurnsOver → l ≡ Spent
+  over_spends : (l : LastRound) → EndsAs (IsDeployedThere content) most rounds l s old new d → s ≡ statuses.TurnsOver → l ≡ Spent
   over_spends l why is = ⊎_elim (λ shut. absurd (apart (shut_done l why shut) is)) (λ spent. spent) (goes_through l why (ap gives_up is) (ap is_restart is))
     where
       apart : s ≡ statuses.Done → s ≡ statuses.TurnsOver → ⊥
@@ -182,33 +182,33 @@ module _ {D : Type 0} (disk : a_disk.Ghosts D) (content : Option Content) (most 
   }
 
 -- the records of the last round are those whose line is written, and one more at most
-last_split : {D : Type 0} (content : Option Content) (most : ℕ) (rounds : List Round) (s : Status) (old new : Outside D) (d : Device) (l : Last) →
+last_split : {D : Type 0} (content : Option Content) (most : ℕ) (rounds : List Round) (s : Status) (old new : Outside D) (d : Device) (l : LastRound) →
     EndsAs (IsDeployedThere content) most rounds l s old new d →
-    (told : List Record) × (records_of_last l ≡ told ++ untold_of_last l) × (length (untold_of_last l) ≤ 1)
+    (printed : List Record) × (records_of_last l ≡ printed ++ unprinted_of_last l) × (length (unprinted_of_last l) ≤ 1)
 last_split content most rounds s old new d Spent why = ([], refl, omega arith)
 last_split content most rounds s old new d Shut why = ([], refl, omega arith)
-last_split content most rounds s old new d (Stops x) why = (x.told, why.clause.split, why.clause.few)
-last_split content most rounds s old new d Fails why = ([], refl, omega arith)
-last_split content most rounds s old new d Starves why = ([], refl, omega arith)
+last_split content most rounds s old new d (StoppedBy x) why = (x.printed_records, why.clause.split, why.clause.few)
+last_split content most rounds s old new d InboxFailed why = ([], refl, omega arith)
+last_split content most rounds s old new d WantOfMemory why = ([], refl, omega arith)
 
 -- The records whose line is written, with what each of these images stands for.
-record Written {D : Type 0} (disk : a_disk.Ghosts D) (new : D) (d : Device) (records untold : List Record) : Type 0 where
-  pub told : List Record
-  pub split : records ≡ told ++ untold
-  pub few : length untold ≤ 1
-  pub whole : untold ≡ [] → (c : Image) → disk.may_leave new c → (e : Device) × Run d records e × Stands c e
+record Written {D : Type 0} (disk : a_disk.Ghosts D) (new : D) (d : Device) (records unprinted_records : List Record) : Type 0 where
+  pub printed_records : List Record
+  pub split : records ≡ printed_records ++ unprinted_records
+  pub few : length unprinted_records ≤ 1
+  pub whole : unprinted_records ≡ [] → (c : Image) → disk.may_leave new c → (e : Device) × Run d records e × IsImageOf c e
 
-written_lasts : {D : Type 0} (disk : a_disk.Ghosts D) (new : D) (d : Device) (records untold : List Record) →
-    ((c : Image) → disk.may_leave new c → StandsForMost slots_entries d records c) → (w : Written disk new d records untold) →
-    Lasts (disk.may_leave new) w.told
-written_lasts disk new d records untold most w before after plan is c left =
-    told_front d c records w.told untold before after plan w.split w.few is (λ none. w.whole none c left) (most c left)
+written_lasts : {D : Type 0} (disk : a_disk.Ghosts D) (new : D) (d : Device) (records unprinted_records : List Record) →
+    ((c : Image) → disk.may_leave new c → StandsForMost slots_entries d records c) → (w : Written disk new d records unprinted_records) →
+    AreLasting (disk.may_leave new) w.printed_records
+written_lasts disk new d records unprinted_records most w before after plan is c left =
+    told_prefix d c records w.printed_records unprinted_records before after plan w.split w.few is (λ none. w.whole none c left) (most c left)
 
 module _ {D : Type 0} (disk : a_disk.Ghosts D) (content : Option Content) (most : ℕ) (old new : Outside D) (p : SessionState) (h : List TraceEvent)
     (status : Status) where
   halted_written : (x : IsHalted disk slots_ghosts old new p h status) → Written disk new.disk p.device (records_of h) x.first.rest
   halted_written x = record {
-    told = x.first.told;
+    printed_records = x.first.printed_records;
     split = x.first.split;
     few = x.first.few;
     whole = λ none c left. ((state_after p h).device, x.goes.run, x.stable none c left);
@@ -216,16 +216,16 @@ module _ {D : Type 0} (disk : a_disk.Ghosts D) (content : Option Content) (most 
 
   served_written : (before g : List TraceEvent) (to : Outside D) → h ≡ g ++ before → Run p.device (records_of before) (state_after p before).device →
       (s : IsSetServed disk slots_ghosts (IsDeployedThere content) most to new (state_after p before) g status) →
-      Written disk new.disk p.device (records_of h) (untold_of_last s.last)
+      Written disk new.disk p.device (records_of h) (unprinted_of_last s.last)
   served_written before g to same first s =
       let last = last_split content most s.rounds status s.to new s.behind s.last s.ends in
       let rounds = records_of_rounds s.rounds in
       let all : records_of h ≡ records_of before ++ records_of g = ap records_of same ∙ records-append g before in
       record {
-        told = records_of before ++ (rounds ++ last.0);
+        printed_records = records_of before ++ (rounds ++ last.0);
         split = all ∙ ap (λ (l : List Record). records_of before ++ l)
-            (s.records ∙ (ap (λ (l : List Record). rounds ++ l) last.1 ∙ sym (append_assoc rounds last.0 (untold_of_last s.last))))
-            ∙ sym (append_assoc (records_of before) (rounds ++ last.0) (untold_of_last s.last));
+            (s.records ∙ (ap (λ (l : List Record). rounds ++ l) last.1 ∙ sym (append_assoc rounds last.0 (unprinted_of_last s.last))))
+            ∙ sym (append_assoc (records_of before) (rounds ++ last.0) (unprinted_of_last s.last));
         few = last.2;
         whole = λ none c left. (
           (state_after (state_after p before) g).device,
@@ -235,19 +235,20 @@ module _ {D : Type 0} (disk : a_disk.Ghosts D) (content : Option Content) (most 
         );
       }
 
-  parts_written : (parts : Parts disk content most old new p status h) →
-      Written disk new.disk p.device (records_of h) (untold_of disk content most old new p status h parts)
+  parts_written : (parts : IsHaltedOrServed disk content most old new p status h) →
+      Written disk new.disk p.device (records_of h) (unprinted_of disk content most old new p status h parts)
   parts_written (inl halted) = halted_written halted.0
   parts_written (inr s) = served_written s.0 s.1 s.2 s.3 s.7.goes.run s.8
 
-  pub ends_in_order : (parts : Parts disk content most old new p status h) → EndsInOrder disk content most old new p status h parts
+  pub ends_in_order : (parts : IsHaltedOrServed disk content most old new p status h) → EndsInOrder disk content most old new p status h parts
   ends_in_order (inl halted) = ends_call (status_of_ending halted.0.ending) status halted.0.with_status
   ends_in_order (inr s) = subst (λ (n : ℕ). IsInOrder most s.8.rounds s.8.last status n new.library) s.6
       (served_in_order disk content most s.2 new status (state_after p s.0) s.1 s.8)
 
-  pub told_in_order : (parts : Parts disk content most old new p status h) →
+  pub told_in_order : (parts : IsHaltedOrServed disk content most old new p status h) →
       ((c : Image) → disk.may_leave new.disk c → StandsForMost slots_entries p.device (records_of h) c) →
-      (told : List Record) × (records_of h ≡ told ++ untold_of disk content most old new p status h parts) × Lasts (disk.may_leave new.disk) told
+      (printed : List Record) × (records_of h ≡ printed ++ unprinted_of disk content most old new p status h parts) ×
+      AreLasting (disk.may_leave new.disk) printed
   told_in_order parts most_stand =
       let w = parts_written parts in
-      (w.told, w.split, written_lasts disk new.disk p.device (records_of h) (untold_of disk content most old new p status h parts) most_stand w)
+      (w.printed_records, w.split, written_lasts disk new.disk p.device (records_of h) (unprinted_of disk content most old new p status h parts) most_stand w)

@@ -5,13 +5,13 @@ use Rattle.checkpoint_log.specs.Slots.{slots_entries, slots_none}
 use Rattle.checkpoint_log.specs.Laws.{slots_laws}
 use Rattle.device.specs.Devices.{Device, no_device}
 use Rattle.device.proofs.OneDevice.{none_stands_for, same_device_for}
-use Rattle.nucleus_top.specs.Opening.{Stands}
+use Rattle.nucleus_top.specs.Opening.{IsImageOf}
 
 -- a journal without an entry stands for the device before its first record
-pub none_stands : (image : Image) → slots_none image → Stands image no_device
+pub none_stands : (image : Image) → slots_none image → IsImageOf image no_device
 none_stands image none = none_stands_for slots_laws image none
 
-pub same_device : (image : Image) (d e : Device) → Stands image d → Stands image e → d ≡ e
+pub same_device : (image : Image) (d e : Device) → IsImageOf image d → IsImageOf image e → d ≡ e
 same_device image d e x y = same_device_for slots_laws image d e x y
 
 -- no slot holds an entry where the journal holds no payload

@@ -4,19 +4,19 @@ use Rattle.nuc_base.specs.declared.status.Status.{Status}
 use Rattle.nuc_base.specs.declared.status.Status.TheVariants as status
 use Rattle.checkpoint_log.specs.Slots.{slots_none}
 use Rattle.device.specs.Devices.{Device, no_device}
-use Rattle.nucleus_top.specs.Answers.{Store, Printed, Told, IsUnchanged, Prints, Expects, none_line, damaged_line}
-use Rattle.nucleus_top.specs.Opening.{Stands, HasEntry, StandsForNone}
+use Rattle.nucleus_top.specs.Answers.{Store, Printed, IsPrinted, IsUnchanged, HasPrinted, IsOrFault, none_line, damaged_line}
+use Rattle.nucleus_top.specs.Opening.{IsImageOf, HasEntry, StandsForNone}
 use Rattle.nucleus_top.specs.Inits.{IsRefusedAt}
-use Rattle.nucleus_top.specs.Shows.{IsShown, ShowsDevice, Shows, StatusParts}
+use Rattle.nucleus_top.specs.Shows.{IsShown, ShowsDevice, StatusAnswer, StatusParts}
 use Rattle.nucleus_top.specs.declared.answer.Answer.{Answer}
 use Rattle.nucleus_top.specs.declared.answer.Answer.TheVariants.{Made, Shown, Planned, Unplanned, Whole, DiskFailed}
 use Rattle.nucleus_top.specs.declared.answer.Answer.TheVariants.{NotInitialised, Damaged, NoMemory, Possible, Got, Drawn}
 use Rattle.nucleus_top.proofs.Standing.{none_stands}
-use Rattle.nucleus_top.proofs.Told.{told_of}
+use Rattle.nucleus_top.proofs.Told.{answer_or_edge}
 
 -- the text of the device for which the journal stands
 pub found_shows : (json : Bool) (store : Store) (d : Device) (a : Answer) → ShowsDevice json d a → IsUnchanged store
-    → (IsTrue store.is_modelled → HasEntry store.before × Stands store.before d) → Shows json store a
+    → (IsTrue store.is_modelled → HasEntry store.before × IsImageOf store.before d) → StatusAnswer json store a
 found_shows json store d (Shown text) shows same found = (
   same,
   λ is_modelled. record {
@@ -31,7 +31,7 @@ found_shows json store d NoMemory shows same found = same
 found_shows json store d a shows same found = absurd shows
 
 module _ (json : Bool) (store : Store) (printed : Printed) (result : Status) where
-  reads_only : (a : Answer) → Shows json store a → IsUnchanged store
+  reads_only : (a : Answer) → StatusAnswer json store a → IsUnchanged store
   reads_only (Shown text) comes = comes.0
   reads_only DiskFailed comes = comes.0
   reads_only NotInitialised comes = comes.0
@@ -39,8 +39,8 @@ module _ (json : Bool) (store : Store) (printed : Printed) (result : Status) whe
   reads_only NoMemory comes = comes
   reads_only a comes = absurd comes
 
-  done : (a : Answer) → Shows json store a → Told printed result a → result ≡ status.Done → (text : List ℕ) ×
-      (IsTrue store.is_modelled → IsShown store.before json text) × Prints printed text
+  done : (a : Answer) → StatusAnswer json store a → IsPrinted printed result a → result ≡ status.Done → (text : List ℕ) ×
+      (IsTrue store.is_modelled → IsShown store.before json text) × HasPrinted printed text
   done (Made thing) comes (inl told) is = absurd comes
   done (Shown text) comes (inl told) is = (text, comes.1, told.1)
   done (Planned text) comes (inl told) is = absurd comes
@@ -52,8 +52,8 @@ module _ (json : Bool) (store : Store) (printed : Printed) (result : Status) whe
   done a comes (inl told) is = cc
   done a comes (inr told) is = cc
 
-  done_comes : (a : Answer) → Shows json store a → Told printed result a → IsTrue store.is_modelled → HasEntry store.before → (d : Device) →
-      Stands store.before d → Expects result status.Done
+  done_comes : (a : Answer) → StatusAnswer json store a → IsPrinted printed result a → IsTrue store.is_modelled → HasEntry store.before → (d : Device) →
+      IsImageOf store.before d → IsOrFault result status.Done
   done_comes a comes (inr told) is_modelled some d stands = inr (inr (inl told.0))
   done_comes (Shown text) comes (inl told) is_modelled some d stands = inr (inl told.0)
   done_comes DiskFailed comes (inl told) is_modelled some d stands = inl told.0
@@ -62,15 +62,15 @@ module _ (json : Bool) (store : Store) (printed : Printed) (result : Status) whe
   done_comes NoMemory comes (inl told) is_modelled some d stands = inr (inr (inr told.0))
   done_comes a comes (inl told) is_modelled some d stands = absurd comes
 
-  none : (a : Answer) → Shows json store a → Told printed result a → result ≡ status.NotInitialised → (IsTrue store.is_modelled → slots_none store.before) ×
-      Prints printed none_line
+  none : (a : Answer) → StatusAnswer json store a → IsPrinted printed result a → result ≡ status.NotInitialised →
+      (IsTrue store.is_modelled → slots_none store.before) × HasPrinted printed none_line
   none NotInitialised comes (inl told) is = (comes.1, told.1)
   none (Unplanned r text) comes (inl told) is = absurd comes
   none a comes (inl told) is = cc
   none a comes (inr told) is = cc
 
-  none_comes : (a : Answer) → Shows json store a → Told printed result a → IsTrue store.is_modelled → slots_none store.before →
-      Expects result status.NotInitialised
+  none_comes : (a : Answer) → StatusAnswer json store a → IsPrinted printed result a → IsTrue store.is_modelled → slots_none store.before →
+      IsOrFault result status.NotInitialised
   none_comes a comes (inr told) is_modelled holds_none = inr (inr (inl told.0))
   none_comes (Shown text) comes (inl told) is_modelled holds_none = absurd ((comes.1 is_modelled).some holds_none)
   none_comes DiskFailed comes (inl told) is_modelled holds_none = inl told.0
@@ -79,15 +79,15 @@ module _ (json : Bool) (store : Store) (printed : Printed) (result : Status) whe
   none_comes NoMemory comes (inl told) is_modelled holds_none = inr (inr (inr told.0))
   none_comes a comes (inl told) is_modelled holds_none = absurd comes
 
-  damaged : (a : Answer) → Shows json store a → Told printed result a → result ≡ status.Damaged → (place : List ℕ) × IsRefusedAt store place ×
-      Prints printed (damaged_line place)
+  damaged : (a : Answer) → StatusAnswer json store a → IsPrinted printed result a → result ≡ status.Damaged → (place : List ℕ) × IsRefusedAt store place ×
+      HasPrinted printed (damaged_line place)
   damaged (Damaged place) comes (inl told) is = (place, comes, told.1)
   damaged (Unplanned r text) comes (inl told) is = absurd comes
   damaged a comes (inl told) is = cc
   damaged a comes (inr told) is = cc
 
-  damaged_comes : (a : Answer) → Shows json store a → Told printed result a → IsTrue store.is_modelled → StandsForNone store.before →
-      Expects result status.Damaged
+  damaged_comes : (a : Answer) → StatusAnswer json store a → IsPrinted printed result a → IsTrue store.is_modelled → StandsForNone store.before →
+      IsOrFault result status.Damaged
   damaged_comes a comes (inr told) is_modelled refuses = inr (inr (inl told.0))
   damaged_comes (Shown text) comes (inl told) is_modelled refuses = absurd (refuses (comes.1 is_modelled).device (comes.1 is_modelled).stands)
   damaged_comes DiskFailed comes (inl told) is_modelled refuses = inl told.0
@@ -96,9 +96,9 @@ module _ (json : Bool) (store : Store) (printed : Printed) (result : Status) whe
   damaged_comes NoMemory comes (inl told) is_modelled refuses = inr (inr (inr told.0))
   damaged_comes a comes (inl told) is_modelled refuses = absurd comes
 
-  pub status_parts : (a : Answer) → Shows json store a → Told printed result a → StatusParts json store printed result
+  pub status_parts : (a : Answer) → StatusAnswer json store a → IsPrinted printed result a → StatusParts json store printed result
   status_parts a comes told = record {
-    which = told_of (Shows json store) printed result a comes told;
+    which = answer_or_edge (StatusAnswer json store) printed result a comes told;
     reads_only = reads_only a comes;
     done = done a comes told;
     done_comes = done_comes a comes told;

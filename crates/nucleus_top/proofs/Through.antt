@@ -15,16 +15,16 @@ use Rattle.library_core.specs.Library.{Content}
 use Rattle.histories.specs.TraceEvents.{records_of}
 use Rattle.histories.specs.States.{state_after}
 use Rattle.step_runner.specs.declared.entries.RunnerEntry.{RunnerEntry}
-use Rattle.admission.specs.Requests.{Requests, TakesBy}
+use Rattle.admission.specs.Requests.{AskOutcome, TakesBy}
 use Rattle.admission.specs.declared.ask.Ask.TheVariants as ask
 use Rattle.session.specs.Calls.{IsOrEdge}
-use Rattle.session.specs.Endings.{Ending, Fails, status_of_ending}
+use Rattle.session.specs.Endings.{Ending, ByDiskFault, status_of_ending}
 use Rattle.workload.specs.Answers.{is_want}
-use Rattle.nucleus_top.specs.Answers.{Input, Printed, Shelf, Store, Told, status_of, store_of}
+use Rattle.nucleus_top.specs.Answers.{Input, Printed, Shelf, Store, IsPrinted, status_of, store_of}
 use Rattle.nucleus_top.specs.Crashes.{KeepsJournalOrFiles}
-use Rattle.nucleus_top.specs.Drives.{IsDeployed, IsDeployedOn, IsRefusedBefore, TurnsAway}
-use Rattle.nucleus_top.specs.Opening.{Stands}
-use Rattle.nucleus_top.specs.Workloads.{GoesThrough, GoThrough, IsBegunAs, IsDeployment}
+use Rattle.nucleus_top.specs.Drives.{IsDeployed, IsDeployedOn, IsRefusedBefore, MayNotDeploy}
+use Rattle.nucleus_top.specs.Opening.{IsImageOf}
+use Rattle.nucleus_top.specs.Workloads.{DeviceAfterOne, DeviceAfterAll, IsBegunAs, IsDeployment}
 use Rattle.nucleus_top.specs.declared.answer.Answer.{Answer}
 use Rattle.nucleus_top.specs.declared.answer.Answer.TheVariants.{DiskFailed, SourceFailed, NotInitialised, Damaged, Pending, NoMemory}
 use Rattle.nucleus_top.proofs.Origins.{has_entry}
@@ -52,7 +52,7 @@ no_want_of : (result s : Status) → IsOrEdge result s → is_want result ≡ fa
 no_want_of result s (inl is) other = ap is_want (sym is) ∙ other
 no_want_of result s (inr edge) other = absurd (false≢true (sym other ∙ ap is_want edge))
 
-no_failure : (e : Ending) → is_want (status_of_ending e) ≡ false → e ≢ Fails
+no_failure : (e : Ending) → is_want (status_of_ending e) ≡ false → e ≢ ByDiskFault
 no_failure e other is = false≢true (sym other ∙ ap (λ (x : Ending). is_want (status_of_ending x)) is)
 
 is_some : {A : Type 0} (x : Option A) (P : A → Type 0) → IsSomeAnd x P → x ≢ None
@@ -68,12 +68,12 @@ module _ {D : Type 0} {is_modelled : Bool} {seen : D → Image} {may_leave : D �
 
   -- it is driven
   deployed : (start : ℕ → ℕ) (library : Shelf) → library.content ≡ Some content
-      → IsDeployedOn may_leave moment left_since faults old new old_list new_list printed result d start library (Requests ask.Document document)
-      → (e : Device) × IsBegunAs (seen new) e × GoesThrough content document d e
+      → IsDeployedOn may_leave moment left_since faults old new old_list new_list printed result d start library (AskOutcome ask.Document document)
+      → (e : Device) × IsBegunAs (seen new) e × DeviceAfterOne content document d e
   deployed start library holds h =
       let c = h.call.0 in
       let other = no_want_of result (status_of_ending c.ending) c.answers no_want in
-      let e = (state_after h.place c.history).device in
+      let e = (state_after h.state c.history).device in
       let run : Run d (records_of c.history) e = subst (λ (x : Device). Run x (records_of c.history) e) h.driven.device_is h.driven.history.run in (
         e,
         (c.prints.stable (c.prints.all (no_failure c.ending other)) (seen new) (laws.reads new told), run_begun (records_of c.history) d e run begun.1),
@@ -84,9 +84,9 @@ module _ {D : Type 0} {is_modelled : Bool} {seen : D → Image} {may_leave : D �
           before = library.faults_before;
           after = library.faults_after;
           taken = h.taken;
-          takes = subst (λ (x : Option Content). TakesBy (Requests ask.Document document) d h.origin x library.faults_before library.faults_after h.taken)
+          takes = subst (λ (x : Option Content). TakesBy (AskOutcome ask.Document document) d h.origin x library.faults_before library.faults_after h.taken)
               holds h.takes;
-          place = h.place;
+          state = h.state;
           serves = h.serves;
           device_is = h.driven.device_is;
           history = c.history;
@@ -100,8 +100,8 @@ module _ {D : Type 0} {is_modelled : Bool} {seen : D → Image} {may_leave : D �
         }),
       )
 
-  -- it is turned away, as another is pending
-  is_pending : (input : Input) (a : Answer) → TurnsAway store input a → result ≡ status_of a → d.pending ≢ None
+  -- it is refused, as another is pending
+  is_pending : (input : Input) (a : Answer) → MayNotDeploy store input a → result ≡ status_of a → d.pending ≢ None
   is_pending input (Pending id) why is =
       let e = why.0.0 in
       subst (λ (x : Device). x.pending ≢ None) (same_device (seen old) e d (why.0.1 told).1 begun.0) (is_some e.pending (λ q. q.plan.id ≡ id) why.0.2)
@@ -112,58 +112,58 @@ module _ {D : Type 0} {is_modelled : Bool} {seen : D → Image} {may_leave : D �
   is_pending input NoMemory why is = absurd (false≢true (sym no_want ∙ ap is_want is))
   is_pending input a why is = absurd why
 
-  told_pending : (input : Input) (a : Answer) → TurnsAway store input a → Told printed result a → d.pending ≢ None
+  told_pending : (input : Input) (a : Answer) → MayNotDeploy store input a → IsPrinted printed result a → d.pending ≢ None
   told_pending input a why (inl is) = is_pending input a why is.0
   told_pending input a why (inr cut) = absurd (false≢true (sym no_want ∙ ap is_want cut.0))
 
-  stands_on : KeepsJournalOrFiles may_leave seen old new → Stands (seen new) d
+  stands_on : KeepsJournalOrFiles may_leave seen old new → IsImageOf (seen new) d
   stands_on (inl keeps) = (keeps (seen new) (laws.reads new told)).device d begun.0
-  stands_on (inr same) = subst (λ (image : Image). Stands image d) (sym same) begun.0
+  stands_on (inr same) = subst (λ (image : Image). IsImageOf image d) (sym same) begun.0
 
-  turned : (input : Input) → IsRefusedBefore seen may_leave moment left_since (λ a. TurnsAway store input a) old new printed result
-      → (e : Device) × IsBegunAs (seen new) e × GoesThrough content document d e
-  turned input h = (d, (stands_on h.reads, begun.1), inr (told_pending input h.answer h.why h.told, refl))
+  refused : (input : Input) → IsRefusedBefore seen may_leave moment left_since (λ a. MayNotDeploy store input a) old new printed result
+      → (e : Device) × IsBegunAs (seen new) e × DeviceAfterOne content document d e
+  refused input h = (d, (stands_on h.reads, begun.1), inr (told_pending input h.answer h.why h.is_printed, refl))
 
   found : (input : Input) (library : Shelf) → input.document ≡ Some document → library.content ≡ Some content
       → IsDeployed may_leave moment left_since faults old new old_list new_list printed result ask.Document store input library
-      → (e : Device) × IsBegunAs (seen new) e × GoesThrough content document d e
+      → (e : Device) × IsBegunAs (seen new) e × DeviceAfterOne content document d e
   found input library has holds h =
       let on = h.4 in
       let same : h.0 ≡ d = same_device (seen old) h.0 d (h.2 told).1 begun.0 in
       let bytes : on.0 ≡ document = on.1.whole document has in
       deployed h.1 library holds
       (subst (λ (x : Device). IsDeployedOn may_leave moment left_since faults old new old_list new_list printed result
-      x h.1 library (Requests ask.Document document)) same
+      x h.1 library (AskOutcome ask.Document document)) same
       (subst (λ (b : List ℕ). IsDeployedOn may_leave moment left_since faults old new old_list new_list printed result
-      h.0 h.1 library (Requests ask.Document b)) bytes
+      h.0 h.1 library (AskOutcome ask.Document b)) bytes
       on.2))
 
   pub gone_through : (runner : Type 0) (input : Input) (library : Shelf) → input.document ≡ Some document → library.content ≡ Some content
-      → (IsRefusedBefore seen may_leave moment left_since (λ a. TurnsAway store input a) old new printed result × runner)
+      → (IsRefusedBefore seen may_leave moment left_since (λ a. MayNotDeploy store input a) old new printed result × runner)
       ⊎ IsDeployed may_leave moment left_since faults old new old_list new_list printed result ask.Document store input library
-      → (e : Device) × IsBegunAs (seen new) e × GoesThrough content document d e
-  gone_through runner input library has holds ran = ⊎_elim (λ away. turned input away.0) (λ went. found input library has holds went) ran
+      → (e : Device) × IsBegunAs (seen new) e × DeviceAfterOne content document d e
+  gone_through runner input library has holds ran = ⊎_elim (λ away. refused input away.0) (λ went. found input library has holds went) ran
 
 pub same_some : {A : Type 0} (x y : A) → Some x ≡ Some y → x ≡ y
 same_some x y is = cc
 
 -- ---- one after another
 
-through_more : (content : Content) (documents : List (List ℕ)) (document : List ℕ) (d e f : Device) → GoThrough content documents d e
-    → GoesThrough content document e f → GoThrough content (documents ++ document ∷ []) d f
-through_more content [] document d e f before last = (f, subst (λ (x : Device). GoesThrough content document x f) before last, refl)
+through_more : (content : Content) (documents : List (List ℕ)) (document : List ℕ) (d e f : Device) → DeviceAfterAll content documents d e
+    → DeviceAfterOne content document e f → DeviceAfterAll content (documents ++ document ∷ []) d f
+through_more content [] document d e f before last = (f, subst (λ (x : Device). DeviceAfterOne content document x f) before last, refl)
 through_more content (x ∷ documents) document d e f before last =
     (before.0, before.1, through_more content documents document before.0 e f before.2 last)
 
 -- from any device for which the journal stood, to one for which it stands
 abbrev pub Goes : Content → List (List ℕ) → Image → Image → Type 0
-Goes content documents old new = (d : Device) → IsBegunAs old d → (e : Device) × IsBegunAs new e × GoThrough content documents d e
+Goes content documents old new = (d : Device) → IsBegunAs old d → (e : Device) × IsBegunAs new e × DeviceAfterAll content documents d e
 
 pub goes_none : (content : Content) (image : Image) → Goes content [] image image
 goes_none content image d begun = (d, begun, refl)
 
 pub goes_more : (content : Content) (documents : List (List ℕ)) (document : List ℕ) (old mid new : Image) → Goes content documents old mid
-    → ((d : Device) → IsBegunAs mid d → (e : Device) × IsBegunAs new e × GoesThrough content document d e)
+    → ((d : Device) → IsBegunAs mid d → (e : Device) × IsBegunAs new e × DeviceAfterOne content document d e)
     → Goes content (documents ++ document ∷ []) old new
 goes_more content documents document old mid new before last d begun =
     let m = before d begun in

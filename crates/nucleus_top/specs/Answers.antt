@@ -159,8 +159,8 @@ IsUnchanged store = store.after ≡ store.before
 abbrev pub HasRisen : Store → Type 0
 HasRisen store = Rose store.faults_before store.faults_after
 
-abbrev pub Prints : Printed → List ℕ → Type 0
-Prints printed lines = Appends printed.before printed.after lines
+abbrev pub HasPrinted : Printed → List ℕ → Type 0
+HasPrinted printed lines = Appends printed.before printed.after lines
 
 -- No count rose but that of the fault which is answered.
 pub record IsQuiet (store : Store) (input : Input) (answer : Answer) : Type 0 where
@@ -171,21 +171,21 @@ pub record IsQuiet (store : Store) (input : Input) (answer : Answer) : Type 0 wh
 abbrev pub IsStill : Shelf → Answer → Type 0
 IsStill library answer = answer ≢ LibraryFailed → library.faults_after ≡ library.faults_before
 
--- The sink failed, and got a front of the lines of this answer.
+-- The sink failed, and got a prefix of the lines of this answer.
 pub record IsCutShort (printed : Printed) (answer : Answer) : Type 0 where
   pub rose : Rose printed.faults_before printed.faults_after
-  pub front : AppendsPrefix printed.before printed.after (lines_of answer)
+  pub prefix : AppendsPrefix printed.before printed.after (lines_of answer)
 
--- What the sink got: the lines of the answer, and its count stays; or where it failed a front of them.
-abbrev pub Told : Printed → Status → Answer → Type 0
-Told printed result answer =
-    ((result ≡ status_of answer) × Prints printed (lines_of answer) × (printed.faults_after ≡ printed.faults_before))
+-- What the sink got: the lines of the answer, and its count stays; or where it failed a prefix of them.
+abbrev pub IsPrinted : Printed → Status → Answer → Type 0
+IsPrinted printed result answer =
+    ((result ≡ status_of answer) × HasPrinted printed (lines_of answer) × (printed.faults_after ≡ printed.faults_before))
     ⊎ ((result ≡ status.Edge) × IsCutShort printed answer)
 
 -- this answer, or a fault of an edge, or want of memory
-abbrev pub Yields : Status → Status → Type 0
-Yields result expected = (result ≡ expected) ⊎ (result ≡ status.Edge) ⊎ (result ≡ status.Memory)
+abbrev pub IsOrEdgeOrMemory : Status → Status → Type 0
+IsOrEdgeOrMemory result expected = (result ≡ expected) ⊎ (result ≡ status.Edge) ⊎ (result ≡ status.Memory)
 
 -- this answer, or a fault of the disk, or of an edge, or want of memory
-abbrev pub Expects : Status → Status → Type 0
-Expects result expected = (result ≡ status.Disk) ⊎ Yields result expected
+abbrev pub IsOrFault : Status → Status → Type 0
+IsOrFault result expected = (result ≡ status.Disk) ⊎ IsOrEdgeOrMemory result expected

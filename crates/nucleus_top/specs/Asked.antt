@@ -4,7 +4,7 @@ use Rattle.admission.specs.declared.ask.Ask.TheVariants as ask
 use Rattle.command_words.specs.Words.{IsOrder}
 use Rattle.command_words.specs.declared.order.Order.{Order}
 use Rattle.command_words.specs.declared.order.Order.TheVariants as orders
-use Rattle.nucleus_top.specs.Drives.{AsksTo, Drives, Serves}
+use Rattle.nucleus_top.specs.Drives.{AsksTo, AsksToDrive, AsksToServeTurns}
 use Rattle.nucleus_top.specs.declared.asking.Asked.{Asked}
 use Rattle.nucleus_top.specs.declared.asking.Asked.TheVariants.{Deploy, Resume, Serve, Other, NoMemory}
 
@@ -22,9 +22,9 @@ asked_of orders.Audit = Other
 asked_of (orders.ConfigGet name at) = Other
 asked_of orders.Why = Other
 
-abbrev pub AsksFor : List (List ℕ) → Asked → Type 0
-AsksFor words (Deploy what) = AsksTo words what
-AsksFor words Resume = (root : List ℕ) × IsOrder words root orders.Resume
-AsksFor words (Serve turns) = Serves words turns
-AsksFor words Other = Drives words → ⊥
-AsksFor words NoMemory = ⊤
+abbrev pub AreWordsFor : List (List ℕ) → Asked → Type 0
+AreWordsFor words (Deploy what) = AsksTo words what
+AreWordsFor words Resume = (root : List ℕ) × IsOrder words root orders.Resume
+AreWordsFor words (Serve turns) = AsksToServeTurns words turns
+AreWordsFor words Other = AsksToDrive words → ⊥
+AreWordsFor words NoMemory = ⊤

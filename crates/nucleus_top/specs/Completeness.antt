@@ -18,7 +18,7 @@ use Rattle.records.specs.Stored.{Accepted, Draft, Plan, Record, plan_view}
 use Rattle.records.specs.declared.record.Plan as code
 use Rattle.records.specs.declared.record.Origin.{Origin}
 use Rattle.deployment_doc.specs.declared.document.Document.{Document}
-use Rattle.device.specs.Filled.{Fills}
+use Rattle.device.specs.Filled.{PlanFilled}
 use Rattle.artifact_store.specs.Staged.{draft_lines}
 use Rattle.plan_core.specs.Plans.{IsChoice, IsPlanned, room_lines, size_lines}
 use Rattle.plan_core.specs.Ready.{IsFresh, IsOpen}
@@ -29,14 +29,14 @@ use Rattle.step_runner.specs.declared.entries.RunnerEntry.{RunnerEntry}
 use Rattle.histories.specs.TraceEvents.{records_of}
 use Rattle.law_histories.specs.Ends.{NoneFails}
 use Rattle.law_histories.specs.Onward.{ClosedAs, ComesUp, IsNoLess, IsOneOn}
-use Rattle.admission.specs.Requests.{Requests}
+use Rattle.admission.specs.Requests.{AskOutcome}
 use Rattle.admission.specs.declared.ask.Ask.{Ask}
 use Rattle.admission.specs.declared.fault.Declined.{Declined}
 use Rattle.session.specs.Documents.{FitsFrom}
 use Rattle.nucleus_top.specs.Answers.{HasRisen, Input, Printed, Shelf, Store, store_of}
 use Rattle.nucleus_top.specs.Drives.{DriveParts, IsDeployed, IsDeployedOn, IsRefusedBefore, IsResumed, IsResumedOn, MayNotOpen}
-use Rattle.nucleus_top.specs.Drives.{StartsFrom, TurnsAway, shelf_for}
-use Rattle.nucleus_top.specs.Opening.{Stands}
+use Rattle.nucleus_top.specs.Drives.{StartsFrom, MayNotDeploy, shelf_for}
+use Rattle.nucleus_top.specs.Opening.{IsImageOf}
 
 -- ---- nothing outside fails
 
@@ -56,7 +56,7 @@ pub record HasPlan (d : Device) (o : Origin) (l : Content) (start : ℕ → ℕ)
   pub valid : IsValid (members cs) (wanted_of d.groups document) set
   pub sizes : (choice : List Candidate) → IsChoice d cs document choice → AllHold (size_lines (items_of d.set document.roots choice))
   pub files : (draft : Draft) → IsPlanned o d cs document draft → AllHold (draft_lines l d.set draft)
-  pub room : (draft : Draft) (plan : Plan) → IsPlanned o d cs document draft → Fills draft plan → FitsFrom start plan
+  pub room : (draft : Draft) (plan : Plan) → IsPlanned o d cs document draft → PlanFilled draft plan → FitsFrom start plan
 
 -- No deployment of the document's id is closed, it is no older than what its group has, one more deployment may close, candidates are
 -- gathered, and so it is over these.
@@ -94,17 +94,17 @@ module _ {D : Type 0} (may_leave : D → Image → Type 0) (moment : D → ℕ) 
     pub rest : List Record
     pub accepted : records_of deployed.call.0.history ≡ Accepted (plan_view plan) ∷ rest
     pub ends : EndsDriven result
-    pub quiet : NoneFails deployed.place deployed.call.0.history → EndsWell result
+    pub quiet : NoneFails deployed.state deployed.call.0.history → EndsWell result
 
 -- each of these images stands for the device
-abbrev pub AllStand : (Image → Type 0) → Device → Type 0
-AllStand images d = (c : Image) → images c → Stands c d
+abbrev pub AreImagesOf : (Image → Type 0) → Device → Type 0
+AreImagesOf images d = (c : Image) → images c → IsImageOf c d
 
 -- The call ended with 0: the deployment closed as it was to.
 pub record HasClosed (images : Image → Type 0) (d : Device) (q : Pending) (result : Status) : Type 0 where
   pub done : result ≡ status.Done
   pub left : Device
-  pub stands : AllStand images left
+  pub stands : AreImagesOf images left
   pub none : left.pending ≡ None
   pub closed : ClosedAs d q.plan outcomes.Successful left
 
@@ -112,15 +112,15 @@ pub record HasClosed (images : Image → Type 0) (d : Device) (q : Pending) (res
 pub record HasOneMore (images : Image → Type 0) (q : Pending) (result : Status) : Type 0 where
   pub asks : (result ≡ status.Restart) ⊎ (result ≡ status.Reboot)
   pub left : Device
-  pub stands : AllStand images left
+  pub stands : AreImagesOf images left
   pub next : Pending
   pub pending : left.pending ≡ Some next
   pub up : ComesUp next
   pub same : IsNoLess q next
   pub one : IsOneOn q next
 
-abbrev pub GetsOn : (Image → Type 0) → Device → Pending → Status → Type 0
-GetsOn images d q result = HasClosed images d q result ⊎ HasOneMore images q result
+abbrev pub HasGotOn : (Image → Type 0) → Device → Pending → Status → Type 0
+HasGotOn images d q result = HasClosed images d q result ⊎ HasOneMore images q result
 
 -- ---- laws
 
@@ -131,15 +131,15 @@ module _ {D : Type 0} (is_modelled : Bool) (seen : D → Image) (may_leave : D �
   abbrev pub DeploysComplete : Type 0
   DeploysComplete = (old new : D) (old_list new_list : Option (List RunnerEntry)) (input : Input) (library : Shelf) (printed : Printed) (result : Status)
       (what : Ask) (d : Device) (o : Origin) (bytes : List ℕ) (l : Content)
-      → IsRefusedBefore seen may_leave moment left_since (λ a. TurnsAway (store_of is_modelled seen faults old new) input a) old new printed result
+      → IsRefusedBefore seen may_leave moment left_since (λ a. MayNotDeploy (store_of is_modelled seen faults old new) input a) old new printed result
       ⊎ IsDeployed may_leave moment left_since faults old new old_list new_list printed result what (store_of is_modelled seen faults old new) input library
       → DriveParts (store_of is_modelled seen faults old new) input library printed result
       → NoFaults (store_of is_modelled seen faults old new) input library printed
-      → IsTrue is_modelled → Stands (seen old) d → d.origin ≡ Some o → d.pending ≡ None
+      → IsTrue is_modelled → IsImageOf (seen old) d → d.origin ≡ Some o → d.pending ≡ None
       → input.document ≡ Some bytes → (shelf_for what library).content ≡ Some l
-      → ((start : ℕ → ℕ) → StartsFrom (seen old) d start → MayAsk d o l start (Requests what bytes))
+      → ((start : ℕ → ℕ) → StartsFrom (seen old) d start → MayAsk d o l start (AskOutcome what bytes))
       → (result ≡ status.Memory)
-      ⊎ IsComplete may_leave moment left_since faults old new old_list new_list printed result d (shelf_for what library) (Requests what bytes)
+      ⊎ IsComplete may_leave moment left_since faults old new old_list new_list printed result d (shelf_for what library) (AskOutcome what bytes)
 
   -- A call to resume, on a store that stands for a device whose deployment comes up, with no failed bootstrap and no component with three
   -- failures: where no count rises, and no end, no refused start and no passed limit is a failure, it ends with 0, or leaves one more of the
@@ -151,10 +151,10 @@ module _ {D : Type 0} (is_modelled : Bool) (seen : D → Image) (may_leave : D �
       ⊎ IsResumed may_leave moment left_since faults old new old_list new_list printed result (store_of is_modelled seen faults old new)
       → DriveParts (store_of is_modelled seen faults old new) input library printed result
       → NoFaults (store_of is_modelled seen faults old new) input library printed
-      → IsTrue is_modelled → Stands (seen old) d → IsSome d.origin → d.pending ≡ Some q → ComesUp q
+      → IsTrue is_modelled → IsImageOf (seen old) d → IsSome d.origin → d.pending ≡ Some q → ComesUp q
       → (result ≡ status.Memory)
       ⊎ ((h : IsResumedOn may_leave moment left_since faults old new old_list new_list printed result d)
-      × (NoneFails h.place h.call.history → GetsOn (may_leave new) d q result))
+      × (NoneFails h.state h.call.history → HasGotOn (may_leave new) d q result))
 
 -- ---- how often
 

@@ -24,7 +24,7 @@ use Rattle.step_runner.specs.declared.entries.RunnerEntry.{RunnerEntry}
 use Rattle.histories.specs.TraceEvents.{TraceEvent, records_of}
 use Rattle.histories.specs.States.{SessionState}
 use Rattle.law_histories.specs.Stood.{IsHistory}
-use Rattle.admission.specs.Requests.{Requests, TakesBy}
+use Rattle.admission.specs.Requests.{AskOutcome, TakesBy}
 use Rattle.admission.specs.Takes.{HasDiskFailed, HasLibraryFailed}
 use Rattle.admission.specs.declared.ask.Ask.{Ask}
 use Rattle.admission.specs.declared.ask.Ask.TheVariants as ask
@@ -32,18 +32,18 @@ use Rattle.admission.specs.declared.fault.Declined.{Declined}
 use Rattle.deployment_doc.specs.declared.document.Document.{Document}
 use Rattle.law_whole.specs.Taking.{StayWhole}
 use Rattle.library_core.specs.Nothing.{no_content}
-use Rattle.session.specs.Calls.{Call, Elsewhere, IsPendingAs, ChangesArtifactsAlone}
+use Rattle.session.specs.Calls.{Call, AreOthersSame, IsPendingAs, ChangesArtifactsAlone}
 use Rattle.session.specs.Documents.{AcceptsTaken, DrivesTaken}
-use Rattle.session.specs.Endings.{Fails, Resumes}
+use Rattle.session.specs.Endings.{ByDiskFault, ResumeEnding}
 use Rattle.session.specs.Sweeping.{LeavesNoStray}
-use Rattle.nucleus_top.specs.Answers.{Expects, HasRisen, Input, Printed, Prints, Shelf, Store, Told, damaged_line, none_line, pending_line}
+use Rattle.nucleus_top.specs.Answers.{IsOrFault, HasRisen, Input, Printed, HasPrinted, Shelf, Store, IsPrinted, damaged_line, none_line, pending_line}
 use Rattle.nucleus_top.specs.Crashes.{KeepsJournal, KeepsJournalOrFiles, KeepsSameWhole, KeepsWhole, LeavesPrefixes, LeavesSame}
 use Rattle.nucleus_top.specs.Inits.{IsRefusedAt}
-use Rattle.nucleus_top.specs.Lasting.{Lasts}
+use Rattle.nucleus_top.specs.Lasting.{AreLasting}
 use Rattle.nucleus_top.specs.Meeting.{StayMet}
-use Rattle.nucleus_top.specs.Opening.{Stands, StandsForNone}
+use Rattle.nucleus_top.specs.Opening.{IsImageOf, StandsForNone}
 use Rattle.nucleus_top.specs.Planning.{IsFound, IsPending}
-use Rattle.nucleus_top.specs.Refusing.{Refuses}
+use Rattle.nucleus_top.specs.Refusing.{NoDeviceAnswer}
 use Rattle.nucleus_top.specs.declared.answer.Answer.{Answer}
 use Rattle.nucleus_top.specs.declared.answer.Answer.TheVariants.{Damaged, DiskFailed, NoMemory, NotInitialised, Pending, SourceFailed}
 
@@ -59,29 +59,29 @@ abbrev pub AsksTo : List (List ℕ) → Ask → Type 0
 AsksTo words what = (root : List ℕ) × (order : Order) × IsOrder words root order × (ask_of order ≡ Some what)
 
 -- they ask to deploy something
-abbrev pub Deploys : List (List ℕ) → Type 0
-Deploys words = (what : Ask) × AsksTo words what
+abbrev pub AsksToDeploy : List (List ℕ) → Type 0
+AsksToDeploy words = (what : Ask) × AsksTo words what
 
 -- they ask to serve, for so many turns at some root
-abbrev pub Serves : List (List ℕ) → ℕ → Type 0
-Serves words turns = (root : List ℕ) × IsOrder words root (Serve turns)
+abbrev pub AsksToServeTurns : List (List ℕ) → ℕ → Type 0
+AsksToServeTurns words turns = (root : List ℕ) × IsOrder words root (Serve turns)
 
 abbrev pub AsksToServe : List (List ℕ) → Type 0
-AsksToServe words = (turns : ℕ) × Serves words turns
+AsksToServe words = (turns : ℕ) × AsksToServeTurns words turns
 
 -- they ask to deploy something, or what an inbox has, and its recipes may be the library's
-abbrev pub DeploysOver : List (List ℕ) → Type 0
-DeploysOver words = (AsksTo words ask.Document ⊎ AsksTo words ask.Local) ⊎ AsksToServe words
+abbrev pub AsksWithLibrary : List (List ℕ) → Type 0
+AsksWithLibrary words = (AsksTo words ask.Document ⊎ AsksTo words ask.Local) ⊎ AsksToServe words
 
 -- they ask to deploy one thing, or to resume
-abbrev pub DrivesOne : List (List ℕ) → Type 0
-DrivesOne words = Deploys words ⊎ ((root : List ℕ) × IsOrder words root Resume)
+abbrev pub AsksToDriveOne : List (List ℕ) → Type 0
+AsksToDriveOne words = AsksToDeploy words ⊎ ((root : List ℕ) × IsOrder words root Resume)
 
 -- they do so, or ask to serve
-abbrev pub Drives : List (List ℕ) → Type 0
-Drives words = DrivesOne words ⊎ AsksToServe words
+abbrev pub AsksToDrive : List (List ℕ) → Type 0
+AsksToDrive words = AsksToDriveOne words ⊎ AsksToServe words
 
--- ---- why a call is turned away
+-- ---- why a call is refused
 
 -- the journal stands for a device, where the disk tells it
 abbrev pub IsThere : Store → Type 0
@@ -89,10 +89,10 @@ IsThere store = (d : Device) × IsFound store d
 
 -- Why there is no device in hand: the journal gives none, or its stray files are not swept.
 abbrev pub MayNotOpen : Store → Answer → Type 0
-MayNotOpen store DiskFailed = Refuses store DiskFailed ⊎ (IsThere store × HasRisen store)
-MayNotOpen store NotInitialised = Refuses store NotInitialised
-MayNotOpen store (Damaged place) = Refuses store (Damaged place)
-MayNotOpen store NoMemory = Refuses store NoMemory ⊎ IsThere store
+MayNotOpen store DiskFailed = NoDeviceAnswer store DiskFailed ⊎ (IsThere store × HasRisen store)
+MayNotOpen store NotInitialised = NoDeviceAnswer store NotInitialised
+MayNotOpen store (Damaged place) = NoDeviceAnswer store (Damaged place)
+MayNotOpen store NoMemory = NoDeviceAnswer store NoMemory ⊎ IsThere store
 MayNotOpen store _ = ⊥
 
 -- Why there is none without a pending deployment: there is none, or the deployment of this id is pending, and stray files
@@ -101,11 +101,11 @@ abbrev pub MayNotOpenIdle : Store → Answer → Type 0
 MayNotOpenIdle store (Pending id) = (d : Device) × IsFound store d × IsPendingAs id d × (IsTrue store.is_modelled → IsSwept (items_of d) store.after)
 MayNotOpenIdle store answer = MayNotOpen store answer
 
--- Why a call that deploys is turned away: there is none, and where one is pending the source is left as it was; or the source failed.
-abbrev pub TurnsAway : Store → Input → Answer → Type 0
-TurnsAway store input (Pending id) = MayNotOpenIdle store (Pending id) × (input.rest ≡ input.document)
-TurnsAway store input SourceFailed = ((d : Device) × IsFound store d × (d.pending ≡ None)) × Rose input.faults_before input.faults_after
-TurnsAway store input answer = MayNotOpen store answer
+-- Why a call that deploys is refused: there is none, and where one is pending the source is left as it was; or the source failed.
+abbrev pub MayNotDeploy : Store → Input → Answer → Type 0
+MayNotDeploy store input (Pending id) = MayNotOpenIdle store (Pending id) × (input.rest ≡ input.document)
+MayNotDeploy store input SourceFailed = ((d : Device) × IsFound store d × (d.pending ≡ None)) × Rose input.faults_before input.faults_after
+MayNotDeploy store input answer = MayNotOpen store answer
 
 -- the refusal that names the pending deployment of the device, or want of memory
 abbrev pub NamesPendingOf : Device → Answer → Type 0
@@ -132,26 +132,26 @@ TellsUnread reading.NoMemory NoMemory = ⊤
 TellsUnread _ _ = ⊥
 
 -- why a document is not read: the source failed, or there is no memory
-abbrev pub GoesUnread : Input → Answer → Type 0
-GoesUnread input SourceFailed = Rose input.faults_before input.faults_after
-GoesUnread input NoMemory = ⊤
-GoesUnread input _ = ⊥
+abbrev pub MayNotRead : Input → Answer → Type 0
+MayNotRead input SourceFailed = Rose input.faults_before input.faults_after
+MayNotRead input NoMemory = ⊤
+MayNotRead input _ = ⊥
 
--- That is told, and the disk is as it was.
+-- That is printed, and the disk is as it was.
 pub record IsUnread {D : Type 0} (old new : D) (input : Input) (printed : Printed) (result : Status) : Type 0 where
   pub answer : Answer
-  pub why : GoesUnread input answer
-  pub told : Told printed result answer
+  pub why : MayNotRead input answer
+  pub is_printed : IsPrinted printed result answer
   pub same : new ≡ old
 
 module _ {D : Type 0} (seen : D → Image) (may_leave : D → Image → Type 0) (moment : D → ℕ) (left_since : D → ℕ → Image → Type 0) where
-  -- A call is refused before anything of a deployment begins, for this reason: the answer is told, and at most files of
+  -- A call is refused before anything of a deployment begins, for this reason: the answer is printed, and at most files of
   -- artifacts change. A crash leaves the device that there was. At the end the disk is as it was, or the journal says what it
   -- said, where the disk did not fail; and where it failed, the journal does so or every file reads as it did.
   pub record IsRefusedBefore (why_so : Answer → Type 0) (old new : D) (printed : Printed) (result : Status) : Type 0 where
     pub answer : Answer
     pub why : why_so answer
-    pub told : Told printed result answer
+    pub is_printed : IsPrinted printed result answer
     pub spared : ChangesArtifactsAlone may_leave moment left_since old new
     pub images : LeavesSame may_leave moment left_since seen old new
     pub whole : KeepsSameWhole may_leave moment left_since seen old new
@@ -161,12 +161,12 @@ module _ {D : Type 0} (seen : D → Image) (may_leave : D → Image → Type 0) 
 -- ---- what all of them share
 
 module _ {D : Type 0} (may_leave : D → Image → Type 0) (moment : D → ℕ) (left_since : D → ℕ → Image → Type 0) (old new : D) where
-  -- This happened from the start of a call on, at this place with this device. A crash leaves what a front of the records makes of the
+  -- This happened from the start of a call on, in this state with this device. A crash leaves what a prefix of the records makes of the
   -- device, with all artifacts of that, where the images at the start had theirs.
-  pub record IsDrivenOn (d : Device) (place : SessionState) (h : List TraceEvent) : Type 0 where
-    pub device_is : place.device ≡ d
+  pub record IsDrivenOn (d : Device) (state : SessionState) (h : List TraceEvent) : Type 0 where
+    pub device_is : state.device ≡ d
     pub sound : IsSound d
-    pub history : IsHistory place h
+    pub history : IsHistory state h
     pub images : LeavesPrefixes may_leave moment left_since old new d (records_of h)
     pub whole : KeepsWhole may_leave moment left_since old new d (records_of h)
     -- what meets its groups and its items does at each record, and what is whole is so
@@ -212,44 +212,44 @@ module _ {D : Type 0} (may_leave : D → Image → Type 0) (moment : D → ℕ) 
   -- Nothing is pending on this device. The request comes to a document or not, and that is taken in on the device or not, by the checks in their
   -- order, and then from the start of the call one deployment goes on by its plan, or the plan is put off.
   pub record IsDeployedOn (d : Device) (start : ℕ → ℕ) (library : Shelf) (request : Device → Result Document Declined → Type 0) : Type 0 where
-    pub place : SessionState
-    pub serves : place.serves ≡ false
+    pub state : SessionState
+    pub serves : state.serves ≡ false
     pub idle : d.pending ≡ None
     pub origin : Origin
     pub origin_is : d.origin ≡ Some origin
     pub taken : Result code.Plan Declined
     pub takes : TakesBy request d origin library.content library.faults_before library.faults_after taken
-    pub call : DrivesTaken slots_entries slots_files may_leave moment left_since old new old_list new_list printed.before printed.after place result start taken
-    pub driven : IsDrivenOn may_leave moment left_since old new d place call.0.history
+    pub call : DrivesTaken slots_entries slots_files may_leave moment left_since old new old_list new_list printed.before printed.after state result start taken
+    pub driven : IsDrivenOn may_leave moment left_since old new d state call.0.history
     -- it ends as one whose disk failed only where the disk's count rose, and its document is declined for the disk or for the
     -- library only where the count of that rose
-    pub failed : call.0.ending ≡ Fails → Rose (faults old) (faults new)
+    pub failed : call.0.ending ≡ ByDiskFault → Rose (faults old) (faults new)
     pub disk_cause : HasDiskFailed taken → Rose (faults old) (faults new)
     pub library_cause : HasLibraryFailed taken → Rose library.faults_before library.faults_after
     -- what was printed lasts
-    pub lasts : Lasts (may_leave new) call.0.prints.told
+    pub lasts : AreLasting (may_leave new) call.0.prints.printed_records
     -- the entry of an accepted plan begins there, and no live one stood behind it then
     pub accepts : AcceptsTaken slots_entries may_leave moment left_since old new d start taken call.0.ending (records_of call.0.history)
 
   -- so it is with what the source has, which is of this kind
-  abbrev pub DeploysOn : Ask → Device → (ℕ → ℕ) → Input → Shelf → Type 0
-  DeploysOn what d start input library = (bytes : List ℕ) × IsDocument input bytes × IsDeployedOn d start library (Requests what bytes)
+  abbrev pub IsInputDeployed : Ask → Device → (ℕ → ℕ) → Input → Shelf → Type 0
+  IsInputDeployed what d start input library = (bytes : List ℕ) × IsDocument input bytes × IsDeployedOn d start library (AskOutcome what bytes)
 
   -- and with the device for which the journal stands, where the disk tells it
   abbrev pub IsDeployed : Ask → Store → Input → Shelf → Type 0
   IsDeployed what store input library = (d : Device) × (start : ℕ → ℕ) × IsFound store d × (IsTrue store.is_modelled → StartsFrom store.before d start) ×
-      DeploysOn what d start input (shelf_for what library)
+      IsInputDeployed what d start input (shelf_for what library)
 
   -- ---- `resume`
 
   -- From the start of a call with this device its pending deployment goes on, where it has one.
   pub record IsResumedOn (d : Device) : Type 0 where
-    pub place : SessionState
-    pub serves : place.serves ≡ false
-    pub call : Call slots_entries slots_files may_leave moment left_since old new old_list new_list printed.before printed.after place result
-    pub resumes : Resumes d call.ending
-    pub driven : IsDrivenOn may_leave moment left_since old new d place call.history
-    pub failed : call.ending ≡ Fails → Rose (faults old) (faults new)
+    pub state : SessionState
+    pub serves : state.serves ≡ false
+    pub call : Call slots_entries slots_files may_leave moment left_since old new old_list new_list printed.before printed.after state result
+    pub resumes : ResumeEnding d call.ending
+    pub driven : IsDrivenOn may_leave moment left_since old new d state call.history
+    pub failed : call.ending ≡ ByDiskFault → Rose (faults old) (faults new)
 
   -- so it is with the device for which the journal stands, where the disk tells it
   abbrev pub IsResumed : Store → Type 0
@@ -260,18 +260,18 @@ module _ {D : Type 0} (may_leave : D → Image → Type 0) (moment : D → ℕ) 
 -- when the refusals of a journal come that gives no device, where no 5, 6 or 15 comes in their place
 pub record RefusedParts (store : Store) (printed : Printed) (result : Status) : Type 0 where
   -- 8 comes exactly where the journal holds no entry.
-  pub none : result ≡ status.NotInitialised → (IsTrue store.is_modelled → slots_none store.before) × Prints printed none_line
-  pub none_comes : IsTrue store.is_modelled → slots_none store.before → Expects result status.NotInitialised
+  pub none : result ≡ status.NotInitialised → (IsTrue store.is_modelled → slots_none store.before) × HasPrinted printed none_line
+  pub none_comes : IsTrue store.is_modelled → slots_none store.before → IsOrFault result status.NotInitialised
   -- 9 comes exactly where it stands for no device.
-  pub damaged : result ≡ status.Damaged → (place : List ℕ) × IsRefusedAt store place × Prints printed (damaged_line place)
-  pub damaged_comes : IsTrue store.is_modelled → StandsForNone store.before → Expects result status.Damaged
+  pub damaged : result ≡ status.Damaged → (place : List ℕ) × IsRefusedAt store place × HasPrinted printed (damaged_line place)
+  pub damaged_comes : IsTrue store.is_modelled → StandsForNone store.before → IsOrFault result status.Damaged
 
 -- 4 comes exactly where a deployment is pending. The source is then left as it was.
 pub record PendingParts (store : Store) (input : Input) (printed : Printed) (result : Status) : Type 0 where
   pub pending : result ≡ status.PendingStands → (id : List ℕ) × (IsTrue store.is_modelled → IsPending store.before id) × (input.rest ≡ input.document) ×
-      Prints printed (pending_line id)
-  pub pending_comes : IsTrue store.is_modelled → (d : Device) → Stands store.before d → (q : PendingPlan) → d.pending ≡ Some q →
-      Expects result status.PendingStands
+      HasPrinted printed (pending_line id)
+  pub pending_comes : IsTrue store.is_modelled → (d : Device) → IsImageOf store.before d → (q : PendingPlan) → d.pending ≡ Some q →
+      IsOrFault result status.PendingStands
 
 -- ---- faults, and files
 
@@ -285,5 +285,5 @@ pub record DriveParts (store : Store) (input : Input) (library : Shelf) (printed
   pub edges_stay : result ≢ status.Edge → (input.faults_after ≡ input.faults_before) × (printed.faults_after ≡ printed.faults_before)
   pub library_failed : result ≡ status.Library → Rose library.faults_before library.faults_after
   pub library_stays : result ≢ status.Library → result ≢ status.Edge → library.faults_after ≡ library.faults_before
-  pub others : IsTrue store.is_modelled → Elsewhere slots_files store.before store.after
+  pub others : IsTrue store.is_modelled → AreOthersSame slots_files store.before store.after
   pub swept : LeavesNoStray store.is_modelled slots_entries result store.after

@@ -9,10 +9,10 @@ use Rattle.status_text.specs.Status.{line}
 use Rattle.config_cmd.specs.Nodes.{IsNodeText, get_lines}
 use Rattle.config_cmd.specs.declared.fault.GetFault.{GetFault}
 use Rattle.config_cmd.specs.declared.fault.GetFault.TheVariants as fault
-use Rattle.nucleus_top.specs.Answers.{Store, Printed, IsUnchanged, Prints, Expects, status_of}
+use Rattle.nucleus_top.specs.Answers.{Store, Printed, IsUnchanged, HasPrinted, IsOrFault, status_of}
 use Rattle.nucleus_top.specs.Drives.{RefusedParts}
-use Rattle.nucleus_top.specs.Looks.{LooksAt}
-use Rattle.nucleus_top.specs.Opening.{Stands, HasEntry}
+use Rattle.nucleus_top.specs.Looks.{LookAnswer}
+use Rattle.nucleus_top.specs.Opening.{IsImageOf, HasEntry}
 use Rattle.nucleus_top.specs.Planning.{IsFound}
 use Rattle.nucleus_top.specs.declared.answer.Answer.{Answer}
 use Rattle.nucleus_top.specs.declared.answer.Answer.TheVariants.{Got, Absent, NoMemory}
@@ -59,30 +59,30 @@ TellsNode node NoMemory = ⊤
 TellsNode node _ = ⊥
 
 -- why an answer comes on a device
-abbrev pub GetsOn : Device → List ℕ → List (List ℕ) → Answer → Type 0
-GetsOn d name at (Got text) = IsNodeLine d name at text
-GetsOn d name at (Absent text) = IsAbsence d name at text
-GetsOn d name at NoMemory = ⊤
-GetsOn d name at _ = ⊥
+abbrev pub GetAnswerOn : Device → List ℕ → List (List ℕ) → Answer → Type 0
+GetAnswerOn d name at (Got text) = IsNodeLine d name at text
+GetAnswerOn d name at (Absent text) = IsAbsence d name at text
+GetAnswerOn d name at NoMemory = ⊤
+GetAnswerOn d name at _ = ⊥
 
 -- ---- the command
 
 -- why an answer comes
-abbrev pub Gets : List ℕ → List (List ℕ) → Store → Answer → Type 0
-Gets name at store = LooksAt store (λ d. GetsOn d name at)
+abbrev pub GetAnswer : List ℕ → List (List ℕ) → Store → Answer → Type 0
+GetAnswer name at store = LookAnswer store (λ d. GetAnswerOn d name at)
 
 pub record GetParts (name : List ℕ) (at : List (List ℕ)) (store : Store) (printed : Printed) (result : Status) : Type 0 where
   -- The status is that of an answer that comes by its cause, or 6.
-  pub which : (result ≡ status.Edge) ⊎ ((answer : Answer) × Gets name at store answer × (result ≡ status_of answer))
+  pub which : (result ≡ status.Edge) ⊎ ((answer : Answer) × GetAnswer name at store answer × (result ≡ status_of answer))
   -- Whatever it answers, every file reads as before.
   pub reads_only : IsUnchanged store
   -- 0 comes exactly where the device has the node, which is printed.
-  pub done : result ≡ status.Done → (d : Device) × IsFound store d × ((text : List ℕ) × IsNodeLine d name at text × Prints printed text)
-  pub done_comes : IsTrue store.is_modelled → HasEntry store.before → (d : Device) → Stands store.before d → (text : List ℕ) → IsNodeLine d name at text →
-      Expects result status.Done
+  pub done : result ≡ status.Done → (d : Device) × IsFound store d × ((text : List ℕ) × IsNodeLine d name at text × HasPrinted printed text)
+  pub done_comes : IsTrue store.is_modelled → HasEntry store.before → (d : Device) → IsImageOf store.before d → (text : List ℕ) → IsNodeLine d name at text →
+      IsOrFault result status.Done
   -- 19 comes exactly where it has none: it runs no such component, or the pointer names nothing in its configuration.
-  pub absent : result ≡ status.Absent → (d : Device) × IsFound store d × ((text : List ℕ) × IsAbsence d name at text × Prints printed text)
-  pub absent_comes : IsTrue store.is_modelled → HasEntry store.before → (d : Device) → Stands store.before d → (text : List ℕ) → IsAbsence d name at text →
-      Expects result status.Absent
+  pub absent : result ≡ status.Absent → (d : Device) × IsFound store d × ((text : List ℕ) × IsAbsence d name at text × HasPrinted printed text)
+  pub absent_comes : IsTrue store.is_modelled → HasEntry store.before → (d : Device) → IsImageOf store.before d → (text : List ℕ) → IsAbsence d name at text →
+      IsOrFault result status.Absent
   -- 8 and 9 come exactly where the journal gives no device.
   pub refused : RefusedParts store printed result

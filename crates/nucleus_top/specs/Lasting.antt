@@ -9,7 +9,7 @@ use Rattle.records.specs.Stored.{Plan, Record, Accepted, Closed}
 use Rattle.device.specs.After.{Course, course}
 use Rattle.device.specs.Devices.{Device}
 use Rattle.device.specs.Lawful.{Run}
-use Rattle.nucleus_top.specs.Opening.{Stands}
+use Rattle.nucleus_top.specs.Opening.{IsImageOf}
 
 -- a deployment of this id is accepted and not closed, or it is closed
 abbrev pub IsTaken : List ℕ → Course → Type 0
@@ -30,9 +30,9 @@ RunsTake = (d e : Device) (before after : List Record) (plan : Plan) → Run d (
 
 -- and a run that ends with a close has more closed deployments than there were
 abbrev pub RunsCloseMore : Type 0
-RunsCloseMore = (d e : Device) (front : List Record) (o : Outcome) → Run d (front ++ Closed o ∷ []) e → length d.closed < length e.closed
+RunsCloseMore = (d e : Device) (prefix : List Record) (o : Outcome) → Run d (prefix ++ Closed o ∷ []) e → length d.closed < length e.closed
 
 -- Of each plan whose acceptance is among these records, each of these images stands for a device that has it, pending or closed.
-abbrev pub Lasts : (Image → Type 0) → List Record → Type 0
-Lasts images told = (before after : List Record) (plan : Plan) → told ≡ before ++ Accepted plan ∷ after → (c : Image) → images c → (e : Device) × Stands c e ×
-    IsTaken plan.id (course e)
+abbrev pub AreLasting : (Image → Type 0) → List Record → Type 0
+AreLasting images records = (before after : List Record) (plan : Plan) → records ≡ before ++ Accepted plan ∷ after → (c : Image) → images c →
+    (e : Device) × IsImageOf c e × IsTaken plan.id (course e)

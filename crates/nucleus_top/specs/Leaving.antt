@@ -1,28 +1,28 @@
 -- What a crash may leave of a call.
 use Rattle.std.specs.Prelude.{◌≡◌, ◌⊎◌, ℕ, List, ⊤}
 use Rattle.nuc_base.specs.declared.status.Status.TheVariants as status
-use Rattle.disk_model.specs.Disk.{Image, After, Settled}
+use Rattle.disk_model.specs.Disk.{Image, IsAfter, Settled}
 use Rattle.checkpoint_log.specs.Slots.{slots_files}
 use Rattle.command_words.specs.declared.order.Order.{Order}
 use Rattle.command_words.specs.declared.order.Order.TheVariants.{Init, Workload}
-use Rattle.nucleus_top.specs.Opening.{Stands}
+use Rattle.nucleus_top.specs.Opening.{IsImageOf}
 use Rattle.nucleus_top.specs.Answers.{status_of}
-use Rattle.nucleus_top.specs.Begun.{begun_device, Begins}
-use Rattle.nucleus_top.specs.Words.{Asks}
+use Rattle.nucleus_top.specs.Begun.{begun_device, ImageBegun}
+use Rattle.nucleus_top.specs.Words.{AsksOrder}
 use Rattle.nucleus_top.specs.declared.answer.Answer.{Answer}
 
 -- What a command may make of an image. `init` touches the journal alone, and only one without an entry; the others touch
 -- nothing.
-abbrev pub Makes : Order → Image → Image → Type 0
-Makes (Init origin) = Begins origin
-Makes _ = λ old new. ⊥
+abbrev pub CommandEffect : Order → Image → Image → Type 0
+CommandEffect (Init origin) = ImageBegun origin
+CommandEffect _ = λ old new. ⊥
 
-abbrev pub LeavesOf : Order → (Image → Type 0) → Image → Type 0
-LeavesOf order allowed image = allowed image ⊎ After allowed (Makes order) image
+abbrev pub MayBeLeftAfter : Order → (Image → Type 0) → Image → Type 0
+MayBeLeftAfter order allowed image = allowed image ⊎ IsAfter allowed (CommandEffect order) image
 
 -- an image that the call's start allowed, or what the command that the words ask makes of one
 abbrev pub MayLeave : List (List ℕ) → (Image → Type 0) → Image → Type 0
-MayLeave words allowed image = allowed image ⊎ ((order : Order) × Asks words order × After allowed (Makes order) image)
+MayLeave words allowed image = allowed image ⊎ ((order : Order) × AsksOrder words order × IsAfter allowed (CommandEffect order) image)
 
 -- the files that a command may change
 abbrev pub files_of : Order → List ℕ → Type 0
@@ -31,10 +31,10 @@ files_of order = slots_files
 -- A crash does not undo the work of a command that is done: after `init` each image stands for the new device, and
 -- after the others the journal's files are as they read. `workload` has nothing to do with the disk.
 abbrev pub IsDurable : Order → (Image → Type 0) → Image → Type 0
-IsDurable (Init origin) images seen = (c : Image) → images c → Stands c (begun_device origin)
+IsDurable (Init origin) images seen = (c : Image) → images c → IsImageOf c (begun_device origin)
 IsDurable (Workload seed) images seen = ⊤
 IsDurable _ images seen = (name : List ℕ) → slots_files name → Settled images name (seen name)
 
 -- where an answer says that the work is done
-abbrev pub Keeps : Order → (Image → Type 0) → Image → Answer → Type 0
-Keeps order images seen answer = status_of answer ≡ status.Done → IsDurable order images seen
+abbrev pub IsDurableIfDone : Order → (Image → Type 0) → Image → Answer → Type 0
+IsDurableIfDone order images seen answer = status_of answer ≡ status.Done → IsDurable order images seen

@@ -5,9 +5,9 @@ use Rattle.device.specs.Devices.{Device}
 use Rattle.device.specs.Lawful.{Run}
 use Rattle.device.specs.Met.{BringMet, Met}
 
--- each device that a front of the records makes of this one is met, where this one is
+-- each device that a prefix of the records makes of this one is met, where this one is
 abbrev pub StayMet : Device → List Record → Type 0
-StayMet d records = Met d → (front rest : List Record) (e : Device) → records ≡ front ++ rest → Run d front e → Met e
+StayMet d records = Met d → (prefix rest : List Record) (e : Device) → records ≡ prefix ++ rest → Run d prefix e → Met e
 
 -- so it is where each plan that the records bring meets what all groups then ask
 abbrev pub BroughtStayMet : Type 0

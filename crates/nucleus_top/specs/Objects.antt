@@ -12,7 +12,7 @@ use Rattle.admission.specs.declared.ask.Ask.{Ask}
 use Rattle.admission.specs.declared.fault.Declined.{Declined}
 use Rattle.deployment_doc.specs.declared.document.Document.{Document}
 use Rattle.nucleus_top.specs.Answers.{Input, Shelf, Store, printed_over, store_over}
-use Rattle.nucleus_top.specs.Drives.{DeploysOn, IsDeployed, IsDeployedOn, IsRefusedBefore, IsResumed}
+use Rattle.nucleus_top.specs.Drives.{IsInputDeployed, IsDeployed, IsDeployedOn, IsRefusedBefore, IsResumed}
 use Rattle.nucleus_top.specs.declared.answer.Answer.{Answer}
 
 -- the state owns the live slot over the disk: which state, the definition says that is passed
@@ -32,7 +32,8 @@ module _ {D K R : Type 0} (disk : a_disk.Ghosts D) (sink : a_sink.Ghosts K) (run
   IsDeployedOver = IsDeployedOn disk.may_leave disk.moment disk.left_since disk.faults old new (runner.list r) (runner.list s) (printed_over sink k l) result
 
   abbrev pub IsInputDeployedOver : Ask → Device → (ℕ → ℕ) → Input → Shelf → Type 0
-  IsInputDeployedOver = DeploysOn disk.may_leave disk.moment disk.left_since disk.faults old new (runner.list r) (runner.list s) (printed_over sink k l) result
+  IsInputDeployedOver = IsInputDeployed disk.may_leave disk.moment disk.left_since disk.faults old new (runner.list r) (runner.list s)
+      (printed_over sink k l) result
 
   abbrev pub IsDeployedFrom : Ask → Input → Shelf → Type 0
   IsDeployedFrom what = IsDeployed disk.may_leave disk.moment disk.left_since disk.faults old new (runner.list r) (runner.list s) (printed_over sink k l)

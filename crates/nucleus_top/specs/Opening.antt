@@ -14,8 +14,8 @@ use Rattle.deploy_state.specs.declared.fault.LoadFault.TheVariants as load
 use Rattle.deploy_state.specs.declared.state.Loaded.{Loaded}
 
 -- the journal of the image, in its two slots, stands for the device
-abbrev pub Stands : Image → Device → Type 0
-Stands = StandsFor slots_entries
+abbrev pub IsImageOf : Image → Device → Type 0
+IsImageOf = StandsFor slots_entries
 
 abbrev pub HasEntry : Image → Type 0
 HasEntry image = ¬ (slots_none image)
@@ -32,26 +32,26 @@ IsDamage = damage.IsDamage slots_entries slots_damaged
 -- The journal has an entry, and stands for this device and for no other: it is not damaged.
 pub record IsFoundAs (image : Image) (d : Device) : Type 0 where
   pub some : HasEntry image
-  pub one : (e : Device) → Stands image e → e ≡ d
+  pub one : (e : Device) → IsImageOf image e → e ≡ d
   pub whole : ¬ (StandsForNone image)
 
 -- so it is where it stands for a device with an origin
 abbrev pub AreFound : Type 0
-AreFound = (image : Image) (d : Device) → Stands image d → IsSome d.origin → IsFoundAs image d
+AreFound = (image : Image) (d : Device) → IsImageOf image d → IsSome d.origin → IsFoundAs image d
 
 -- the journal has an entry, and stands for a device of this thing
 pub record IsInitialised (image : Image) (thing : List ℕ) : Type 0 where
   pub some : HasEntry image
   pub device : Device
-  pub stands : Stands image device
+  pub stands : IsImageOf image device
   pub origin : Origin
   pub origin_is : device.origin ≡ Some origin
   pub thing_is : thing ≡ origin.thing
 
 -- what opening an image answers
-abbrev pub Opens : Image → Result (Loaded Slots) LoadFault → Type 0
-Opens image (Ok s) = HasEntry image × Stands image (loaded_device s)
-Opens image (Err load.Disk) = ⊤
-Opens image (Err load.NotInitialised) = slots_none image
-Opens image (Err (load.Damaged at)) = IsDamage image at
-Opens image (Err load.NoMemory) = ⊤
+abbrev pub OpenAnswer : Image → Result (Loaded Slots) LoadFault → Type 0
+OpenAnswer image (Ok s) = HasEntry image × IsImageOf image (loaded_device s)
+OpenAnswer image (Err load.Disk) = ⊤
+OpenAnswer image (Err load.NotInitialised) = slots_none image
+OpenAnswer image (Err (load.Damaged at)) = IsDamage image at
+OpenAnswer image (Err load.NoMemory) = ⊤

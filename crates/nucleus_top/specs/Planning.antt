@@ -17,10 +17,10 @@ use Rattle.plan_core.specs.declared.fault.Refusal.TheVariants.{Repeated, Candida
 use Rattle.status_text.specs.Status.{closed_line}
 use Rattle.refusal_lines.specs.Lines.{refusal_line, plan_lines}
 use Rattle.refusal_lines.specs.Statuses.{status_of_refusal}
-use Rattle.nucleus_top.specs.Opening.{Stands, HasEntry, StandsForNone}
+use Rattle.nucleus_top.specs.Opening.{IsImageOf, HasEntry, StandsForNone}
 use Rattle.nucleus_top.specs.Inits.{IsRefusedAt}
-use Rattle.nucleus_top.specs.Refusing.{Refuses}
-use Rattle.nucleus_top.specs.Answers.{Store, Input, Shelf, Printed, IsUnchanged, Prints, Expects, none_line, damaged_line, pending_line, library_line}
+use Rattle.nucleus_top.specs.Refusing.{NoDeviceAnswer}
+use Rattle.nucleus_top.specs.Answers.{Store, Input, Shelf, Printed, IsUnchanged, HasPrinted, IsOrFault, none_line, damaged_line, pending_line, library_line}
 use Rattle.nucleus_top.specs.Answers.{status_of, lines_of}
 use Rattle.nucleus_top.specs.declared.answer.Answer.{Answer}
 use Rattle.nucleus_top.specs.declared.answer.Answer.TheVariants.{Planned, Unplanned, Pending, DiskFailed, SourceFailed, LibraryFailed, NotInitialised}
@@ -44,16 +44,16 @@ TellsDraft draft (Planned text) = text ≡ plan_lines (draft_view draft)
 TellsDraft draft NoMemory = ⊤
 TellsDraft draft _ = ⊥
 
--- the line of the refusal, or want of memory. A library that failed is told without memory.
+-- the line of the refusal, or want of memory. A library that failed is answered without memory.
 abbrev pub TellsRefusal : Refusal → Answer → Type 0
 TellsRefusal refusal (Unplanned r text) = (r ≡ refusal) × (text ≡ refusal_line refusal) × (status_of_refusal refusal ≢ status.Library)
 TellsRefusal refusal LibraryFailed = status_of_refusal refusal ≡ status.Library
 TellsRefusal refusal NoMemory = status_of_refusal refusal ≢ status.Library
 TellsRefusal refusal _ = ⊥
 
-abbrev pub Tells : Result Draft Refusal → Answer → Type 0
-Tells (Ok draft) answer = TellsDraft draft answer
-Tells (Err refusal) answer = TellsRefusal refusal answer
+abbrev pub ProposalAnswer : Result Draft Refusal → Answer → Type 0
+ProposalAnswer (Ok draft) answer = TellsDraft draft answer
+ProposalAnswer (Err refusal) answer = TellsRefusal refusal answer
 
 -- ---- any device
 
@@ -64,70 +64,72 @@ NamesPending id NoMemory = ⊤
 NamesPending id _ = ⊥
 
 -- Why an answer comes on a device.
-abbrev pub PlansOn : Device → Input → Shelf → Answer → Type 0
-PlansOn d input library (Planned text) = (draft : Draft) × IsProposed d input library (Ok draft) × (text ≡ plan_lines (draft_view draft))
-PlansOn d input library (Unplanned refusal text) = IsProposed d input library (Err refusal) × (text ≡ refusal_line refusal) ×
+abbrev pub PlanAnswerOn : Device → Input → Shelf → Answer → Type 0
+PlanAnswerOn d input library (Planned text) = (draft : Draft) × IsProposed d input library (Ok draft) × (text ≡ plan_lines (draft_view draft))
+PlanAnswerOn d input library (Unplanned refusal text) = IsProposed d input library (Err refusal) × (text ≡ refusal_line refusal) ×
     (status_of_refusal refusal ≢ status.Library)
-PlansOn d input library (Pending id) = (input.rest ≡ input.document) × ((q : PendingPlan) × (d.pending ≡ Some q) × (id ≡ q.plan.id))
-PlansOn d input library LibraryFailed = IsProposed d input library (Err (Candidates gather.Library)) × Rose library.faults_before library.faults_after
-PlansOn d input library SourceFailed = (d.pending ≡ None) × Rose input.faults_before input.faults_after
-PlansOn d input library NoMemory = ⊤
-PlansOn d input library _ = ⊥
+PlanAnswerOn d input library (Pending id) = (input.rest ≡ input.document) × ((q : PendingPlan) × (d.pending ≡ Some q) × (id ≡ q.plan.id))
+PlanAnswerOn d input library LibraryFailed = IsProposed d input library (Err (Candidates gather.Library)) × Rose library.faults_before library.faults_after
+PlanAnswerOn d input library SourceFailed = (d.pending ≡ None) × Rose input.faults_before input.faults_after
+PlanAnswerOn d input library NoMemory = ⊤
+PlanAnswerOn d input library _ = ⊥
 
 -- ---- the command
 
 -- the device for which the journal stands, where the disk tells that
 abbrev pub IsFound : Store → Device → Type 0
-IsFound store d = IsTrue store.is_modelled → HasEntry store.before × Stands store.before d
+IsFound store d = IsTrue store.is_modelled → HasEntry store.before × IsImageOf store.before d
 
 -- an answer that comes on that device
-abbrev pub ComesOn : Store → Input → Shelf → Answer → Type 0
-ComesOn store input library answer = (d : Device) × IsFound store d × PlansOn d input library answer
+abbrev pub FoundAnswer : Store → Input → Shelf → Answer → Type 0
+FoundAnswer store input library answer = (d : Device) × IsFound store d × PlanAnswerOn d input library answer
 
 -- Why an answer comes. Every file reads as before.
-abbrev pub Plans : Store → Input → Shelf → Answer → Type 0
-Plans store input library DiskFailed = Refuses store DiskFailed
-Plans store input library NotInitialised = Refuses store NotInitialised
-Plans store input library (Damaged place) = Refuses store (Damaged place)
-Plans store input library NoMemory = Refuses store NoMemory
-Plans store input library answer = IsUnchanged store × ComesOn store input library answer
+abbrev pub PlanAnswer : Store → Input → Shelf → Answer → Type 0
+PlanAnswer store input library DiskFailed = NoDeviceAnswer store DiskFailed
+PlanAnswer store input library NotInitialised = NoDeviceAnswer store NotInitialised
+PlanAnswer store input library (Damaged place) = NoDeviceAnswer store (Damaged place)
+PlanAnswer store input library NoMemory = NoDeviceAnswer store NoMemory
+PlanAnswer store input library answer = IsUnchanged store × FoundAnswer store input library answer
 
 -- a plan of the document, and its lines were printed
 abbrev pub IsPlanPrinted : Store → Input → Shelf → Printed → Type 0
 IsPlanPrinted store input library printed =
-    (d : Device) × (draft : Draft) × IsFound store d × IsProposed d input library (Ok draft) × Prints printed (plan_lines (draft_view draft))
+    (d : Device) × (draft : Draft) × IsFound store d × IsProposed d input library (Ok draft) × HasPrinted printed (plan_lines (draft_view draft))
 
 -- the document's deployment closed as successful before, and that was printed again
 abbrev pub IsClosePrinted : Store → Input → Shelf → Printed → Type 0
 IsClosePrinted store input library printed =
-    (d : Device) × (id : List ℕ) × IsFound store d × IsProposed d input library (Err (Repeated id Successful)) × Prints printed (closed_line (id, Successful))
+    (d : Device) × (id : List ℕ) × IsFound store d × IsProposed d input library (Err (Repeated id Successful)) ×
+    HasPrinted printed (closed_line (id, Successful))
 
 -- the journal stands for a device with a pending deployment of this id
 pub record IsPending (image : Image) (id : List ℕ) : Type 0 where
   pub some : HasEntry image
   pub device : Device
-  pub stands : Stands image device
+  pub stands : IsImageOf image device
   pub plan : PendingPlan
   pub pending : device.pending ≡ Some plan
   pub id_is : id ≡ plan.plan.id
 
 pub record PlanParts (store : Store) (input : Input) (library : Shelf) (printed : Printed) (result : Status) : Type 0 where
   -- The status and what was printed are those of an answer that comes by its cause, or the status is 6.
-  pub which : (result ≡ status.Edge) ⊎ ((answer : Answer) × Plans store input library answer × (result ≡ status_of answer) × Prints printed (lines_of answer))
+  pub which : (result ≡ status.Edge) ⊎ ((answer : Answer) × PlanAnswer store input library answer × (result ≡ status_of answer) ×
+      HasPrinted printed (lines_of answer))
   -- Whatever it answers, every file reads as before.
   pub reads_only : IsUnchanged store
   -- 0: a plan was printed, or how the document's deployment closed.
   pub done : result ≡ status.Done → IsPlanPrinted store input library printed ⊎ IsClosePrinted store input library printed
   -- 4 comes exactly where a deployment is pending. The source is then left as it was.
   pub pending : result ≡ status.PendingStands → (id : List ℕ) × (IsTrue store.is_modelled → IsPending store.before id) × (input.rest ≡ input.document) ×
-      Prints printed (pending_line id)
-  pub pending_comes : IsTrue store.is_modelled → HasEntry store.before → (d : Device) → Stands store.before d → (q : PendingPlan) → d.pending ≡ Some q →
-      Expects result status.PendingStands
+      HasPrinted printed (pending_line id)
+  pub pending_comes : IsTrue store.is_modelled → HasEntry store.before → (d : Device) → IsImageOf store.before d → (q : PendingPlan) → d.pending ≡ Some q →
+      IsOrFault result status.PendingStands
   -- 7 comes only where the library's count rose.
-  pub library_failed : result ≡ status.Library → Rose library.faults_before library.faults_after × Prints printed library_line
+  pub library_failed : result ≡ status.Library → Rose library.faults_before library.faults_after × HasPrinted printed library_line
   -- 8 comes exactly where the journal holds no entry.
-  pub none : result ≡ status.NotInitialised → (IsTrue store.is_modelled → slots_none store.before) × Prints printed none_line
-  pub none_comes : IsTrue store.is_modelled → slots_none store.before → Expects result status.NotInitialised
+  pub none : result ≡ status.NotInitialised → (IsTrue store.is_modelled → slots_none store.before) × HasPrinted printed none_line
+  pub none_comes : IsTrue store.is_modelled → slots_none store.before → IsOrFault result status.NotInitialised
   -- 9 comes exactly where the journal stands for no device.
-  pub damaged : result ≡ status.Damaged → (place : List ℕ) × IsRefusedAt store place × Prints printed (damaged_line place)
-  pub damaged_comes : IsTrue store.is_modelled → StandsForNone store.before → Expects result status.Damaged
+  pub damaged : result ≡ status.Damaged → (place : List ℕ) × IsRefusedAt store place × HasPrinted printed (damaged_line place)
+  pub damaged_comes : IsTrue store.is_modelled → StandsForNone store.before → IsOrFault result status.Damaged

@@ -19,9 +19,9 @@ TellsFault load.NoMemory NoMemory = ⊤
 TellsFault _ _ = ⊥
 
 -- why such an answer comes; every file reads as before
-abbrev pub Refuses : Store → Answer → Type 0
-Refuses store DiskFailed = IsUnchanged store × HasRisen store
-Refuses store NotInitialised = IsUnchanged store × (IsTrue store.is_modelled → slots_none store.before)
-Refuses store (Damaged place) = IsRefusedAt store place
-Refuses store NoMemory = IsUnchanged store
-Refuses store _ = ⊥
+abbrev pub NoDeviceAnswer : Store → Answer → Type 0
+NoDeviceAnswer store DiskFailed = IsUnchanged store × HasRisen store
+NoDeviceAnswer store NotInitialised = IsUnchanged store × (IsTrue store.is_modelled → slots_none store.before)
+NoDeviceAnswer store (Damaged place) = IsRefusedAt store place
+NoDeviceAnswer store NoMemory = IsUnchanged store
+NoDeviceAnswer store _ = ⊥

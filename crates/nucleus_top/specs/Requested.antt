@@ -14,7 +14,7 @@ use Rattle.local_deploy.specs.declared.request.LocalRequest.{LocalRequest}
 use Rattle.config_cmd.specs.declared.change.Change.{Change}
 use Rattle.step_runner.specs.declared.entries.RunnerEntry.{RunnerEntry}
 use Rattle.histories.specs.TraceEvents.{records_of}
-use Rattle.admission.specs.Requests.{IsChangeOn, IsLocalOn, Requests}
+use Rattle.admission.specs.Requests.{IsChangeOn, IsLocalOn, AskOutcome}
 use Rattle.admission.specs.Takes.{TakesIn}
 use Rattle.admission.specs.declared.ask.Ask.TheVariants as ask
 use Rattle.law_whole.specs.Requested.{AcceptsNone, IsChangePlan, LocalLeavesBy, outcome_in}
@@ -45,7 +45,7 @@ module _ {D : Type 0} (may_leave : D → Image → Type 0) (moment : D → ℕ) 
   abbrev pub LocalsMoveOneGroup : Type 0
   LocalsMoveOneGroup = (old new : D) (old_list new_list : Option (List RunnerEntry)) (printed : Printed) (result : Status) (d : Device) (start : ℕ → ℕ)
       (library : Shelf) (bytes : List ℕ)
-      → (h : IsDeployedOn may_leave moment left_since faults old new old_list new_list printed result d start library (Requests ask.Local bytes))
+      → (h : IsDeployedOn may_leave moment left_since faults old new old_list new_list printed result d start library (AskOutcome ask.Local bytes))
       → (plan : Plan) (rest : List Record) → records_of h.call.0.history ≡ Accepted plan ∷ rest → IsLocalPlan d h.origin library bytes plan
 
   -- Of a change of one configuration, on a whole device: the plan has the device's items, but for that configuration, no group changes
@@ -53,7 +53,7 @@ module _ {D : Type 0} (may_leave : D → Image → Type 0) (moment : D → ℕ) 
   abbrev pub ChangesMoveOneItem : Type 0
   ChangesMoveOneItem = (old new : D) (old_list new_list : Option (List RunnerEntry)) (printed : Printed) (result : Status) (d : Device) (start : ℕ → ℕ)
       (name bytes : List ℕ)
-      → (h : IsDeployedOn may_leave moment left_since faults old new old_list new_list printed result d start no_shelf (Requests (ask.Change name) bytes))
+      → (h : IsDeployedOn may_leave moment left_since faults old new old_list new_list printed result d start no_shelf (AskOutcome (ask.Change name) bytes))
       → Whole d → NeverAnswers result
       × ((plan : Plan) (rest : List Record) → records_of h.call.0.history ≡ Accepted plan ∷ rest
       → (c : Change) × IsChangeOn name bytes d c × IsChangePlan d h.origin name c plan)

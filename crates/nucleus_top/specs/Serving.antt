@@ -21,11 +21,11 @@ use Rattle.session.specs.Calls.{ChangesArtifactsAlone}
 use Rattle.session.specs.Parts.{EndsCall}
 use Rattle.session_serving.specs.Documents.{IsDeployedThere}
 use Rattle.session_serving.specs.Parts.{Outside}
-use Rattle.session_serving.specs.Rounds.{Last, Round, Shut, Spent, Took, Waited, round_of_last, untold_of_last}
+use Rattle.session_serving.specs.Rounds.{LastRound, Round, Shut, Spent, Took, Waited, round_of_last, unprinted_of_last}
 use Rattle.session_serving.specs.Served.{IsFinished, IsHalted, IsSetServed, IsWholeCall}
 use Rattle.nucleus_top.specs.Answers.{Store}
 use Rattle.nucleus_top.specs.Drives.{IsDrivenOn}
-use Rattle.nucleus_top.specs.Lasting.{Lasts}
+use Rattle.nucleus_top.specs.Lasting.{AreLasting}
 use Rattle.nucleus_top.specs.Planning.{IsFound}
 
 -- the journal of two files
@@ -65,7 +65,7 @@ RoseBy more before now = min (before + more) (2 ^ 64 - 1) ≤ now
 
 -- So the rounds of a call give its status. One round is one answer of the inbox; the last may be that it is closed, or a document that ends
 -- the call.
-pub record IsInOrder (most : ℕ) (rounds : List Round) (last : Last) (status : Status) (before after : ℕ) : Type 0 where
+pub record IsInOrder (most : ℕ) (rounds : List Round) (last : LastRound) (status : Status) (before after : ℕ) : Type 0 where
   -- 0 comes exactly where the inbox is closed.
   pub closed : status ≡ statuses.Done → last ≡ Shut
   pub closes : last ≡ Shut → status ≡ statuses.Done
@@ -79,19 +79,20 @@ pub record IsInOrder (most : ℕ) (rounds : List Round) (last : Last) (status : 
 
 module _ {D : Type 0} (disk : a_disk.Ghosts D) (content : Option Content) (most : ℕ) (old new : Outside D) (p : SessionState) (status : Status) where
   -- Either the pending deployment ends the call, or the set is served from where that was finished.
-  abbrev pub Parts : List TraceEvent → Type 0
-  Parts h = (IsHalted disk slots_ghosts old new p h status × (new.answered ≡ old.answered) × (new.waiting ≡ old.waiting) × (new.library ≡ old.library))
+  abbrev pub IsHaltedOrServed : List TraceEvent → Type 0
+  IsHaltedOrServed h = (IsHalted disk slots_ghosts old new p h status × (new.answered ≡ old.answered) × (new.waiting ≡ old.waiting) ×
+      (new.library ≡ old.library))
       ⊎ ((before g : List TraceEvent) × (to : Outside D) × (h ≡ g ++ before) × (to.answered ≡ old.answered) × (to.waiting ≡ old.waiting)
       × (to.library ≡ old.library) × IsFinished disk slots_ghosts old to p before
       × IsSetServed disk slots_ghosts (IsDeployedThere content) most to new (state_after p before) g status)
 
   -- the records whose line is perhaps not written
-  abbrev pub untold_of : (h : List TraceEvent) → Parts h → List Record
-  untold_of h (inl halted) = halted.0.first.rest
-  untold_of h (inr served) = untold_of_last served.8.last
+  abbrev pub unprinted_of : (h : List TraceEvent) → IsHaltedOrServed h → List Record
+  unprinted_of h (inl halted) = halted.0.first.rest
+  unprinted_of h (inr served) = unprinted_of_last served.8.last
 
   -- By its rounds it ends; or the pending deployment ends it, which gives up, or asks for a restart or a reboot.
-  abbrev pub EndsInOrder : (h : List TraceEvent) → Parts h → Type 0
+  abbrev pub EndsInOrder : (h : List TraceEvent) → IsHaltedOrServed h → Type 0
   EndsInOrder h (inl halted) = EndsCall status
   EndsInOrder h (inr served) = IsInOrder most served.8.rounds served.8.last status old.library new.library
 
@@ -101,23 +102,23 @@ module _ {D : Type 0} (disk : a_disk.Ghosts D) (content : Option Content) (old n
   -- is asked once. Each document is that which came next, and has what is promised of one, for the device of its round; it is done once
   -- before the next question. The lines of the rounds stand in their order.
   pub record IsServedOn (d : Device) (turns : ℕ) : Type 0 where
-    pub place : SessionState
-    pub serves : place.serves ≡ true
-    pub turns_are : place.turns ≡ turns
+    pub state : SessionState
+    pub serves : state.serves ≡ true
+    pub turns_are : state.turns ≡ turns
     pub history : List TraceEvent
-    pub driven : IsDrivenOn disk.may_leave disk.moment disk.left_since old.disk new.disk d place history
+    pub driven : IsDrivenOn disk.may_leave disk.moment disk.left_since old.disk new.disk d state history
     pub from : D
     pub before : ChangesArtifactsAlone disk.may_leave disk.moment disk.left_since old.disk from
     -- no stray file is left then
     pub swept : IsTrue disk.is_modelled → IsSwept (items_of d) (disk.seen from)
     -- at the end each image stands for the device of all records, or of all but the last
     pub most : (c : Image) → disk.may_leave new.disk c → StandsForMost slots_entries d (records_of history) c
-    pub call : IsWholeCall disk slots_ghosts (IsDeployedThere content) turns (on_disk from old) new place history result
-    pub in_order : EndsInOrder disk content turns (on_disk from old) new place result history call.parts
+    pub call : IsWholeCall disk slots_ghosts (IsDeployedThere content) turns (on_disk from old) new state history result
+    pub in_order : EndsInOrder disk content turns (on_disk from old) new state result history call.parts
     -- what was printed lasts
-    pub told : List Record
-    pub told_are : records_of history ≡ told ++ untold_of disk content turns (on_disk from old) new place result history call.parts
-    pub lasts : Lasts (disk.may_leave new.disk) told
+    pub printed_records : List Record
+    pub printed_are : records_of history ≡ printed_records ++ unprinted_of disk content turns (on_disk from old) new state result history call.parts
+    pub lasts : AreLasting (disk.may_leave new.disk) printed_records
 
   -- so it is with the device for which the journal stands, where the disk tells it
   abbrev pub IsServed : Store → ℕ → Type 0

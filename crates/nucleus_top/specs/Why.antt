@@ -17,12 +17,12 @@ use Rattle.status_text.specs.Status.{closed_line}
 use Rattle.refusal_lines.specs.Lines.{refusal_line}
 use Rattle.refusal_lines.specs.Statuses.{status_of_refusal}
 use Rattle.why_not.specs.Reasons.{Reason, seen}
-use Rattle.why_not.specs.Plain.{Explains, HasNoSet}
+use Rattle.why_not.specs.Plain.{IsExplanation, HasNoSet}
 use Rattle.why_not.specs.Texts.{why_bytes}
-use Rattle.nucleus_top.specs.Answers.{Store, Input, Shelf, Printed, IsUnchanged, Prints, possible_line, status_of, lines_of}
+use Rattle.nucleus_top.specs.Answers.{Store, Input, Shelf, Printed, IsUnchanged, HasPrinted, possible_line, status_of, lines_of}
 use Rattle.nucleus_top.specs.Drives.{PendingParts, RefusedParts}
-use Rattle.nucleus_top.specs.Looks.{LooksAt}
-use Rattle.nucleus_top.specs.Planning.{IsFound, PlansOn, TellsRefusal}
+use Rattle.nucleus_top.specs.Looks.{LookAnswer}
+use Rattle.nucleus_top.specs.Planning.{IsFound, PlanAnswerOn, TellsRefusal}
 use Rattle.nucleus_top.specs.declared.answer.Answer.{Answer}
 use Rattle.nucleus_top.specs.declared.answer.Answer.TheVariants.{Possible, Impossible, Unplanned, Pending, SourceFailed, LibraryFailed, NoMemory}
 
@@ -38,11 +38,11 @@ pub record IsQuestioned (d : Device) (input : Input) (library : Shelf) (result :
   pub document : (whole : List ℕ) → input.document ≡ Some whole → bytes ≡ whole
   pub comes : QuestionsRead d origin library.content library.faults_before library.faults_after bytes result
 
--- The first refusal, with its line. A library that failed is told without memory.
+-- The first refusal, with its line. A library that failed is answered without memory.
 pub record IsDeclined (d : Device) (input : Input) (library : Shelf) (refusal : Refusal) (text : List ℕ) : Type 0 where
   pub questioned : IsQuestioned d input library (Err refusal)
   pub text_is : text ≡ refusal_line refusal
-  pub told : status_of_refusal refusal ≢ status.Library
+  pub not_library : status_of_refusal refusal ≢ status.Library
 
 -- some set of the candidates is valid for what is wanted of them
 pub record IsPossible (d : Device) (input : Input) (library : Shelf) : Type 0 where
@@ -55,7 +55,7 @@ pub record IsPossible (d : Device) (input : Input) (library : Shelf) : Type 0 wh
 -- plain one is small, and has at most 65,536 nodes.
 pub record IsExplained (question : Question) (text : List ℕ) : Type 0 where
   pub why : Reason
-  pub explains : Explains (members question.candidates) (asked question.wanted) why
+  pub explains : IsExplanation (members question.candidates) (asked question.wanted) why
   pub none : HasNoSet (members question.candidates) (asked question.wanted)
   pub text_is : text ≡ why_bytes (members question.candidates) why
 
@@ -66,21 +66,21 @@ pub record IsImpossible (d : Device) (input : Input) (library : Shelf) (text : L
   pub explained : IsExplained question text
 
 -- Why an answer comes on a device. That a deployment is pending and that the source failed is told as by `plan`.
-abbrev pub WhysOn : Device → Input → Shelf → Answer → Type 0
-WhysOn d input library Possible = IsPossible d input library
-WhysOn d input library (Impossible e) = IsImpossible d input library (why_bytes (members e.candidates) (seen e.why))
-WhysOn d input library (Unplanned refusal text) = IsDeclined d input library refusal text
-WhysOn d input library (Pending id) = PlansOn d input library (Pending id)
-WhysOn d input library LibraryFailed = IsQuestioned d input library (Err (Candidates gather.Library)) × Rose library.faults_before library.faults_after
-WhysOn d input library SourceFailed = PlansOn d input library SourceFailed
-WhysOn d input library NoMemory = ⊤
-WhysOn d input library _ = ⊥
+abbrev pub WhyAnswerOn : Device → Input → Shelf → Answer → Type 0
+WhyAnswerOn d input library Possible = IsPossible d input library
+WhyAnswerOn d input library (Impossible e) = IsImpossible d input library (why_bytes (members e.candidates) (seen e.why))
+WhyAnswerOn d input library (Unplanned refusal text) = IsDeclined d input library refusal text
+WhyAnswerOn d input library (Pending id) = PlanAnswerOn d input library (Pending id)
+WhyAnswerOn d input library LibraryFailed = IsQuestioned d input library (Err (Candidates gather.Library)) × Rose library.faults_before library.faults_after
+WhyAnswerOn d input library SourceFailed = PlanAnswerOn d input library SourceFailed
+WhyAnswerOn d input library NoMemory = ⊤
+WhyAnswerOn d input library _ = ⊥
 
 -- ---- the command
 
 -- why an answer comes
-abbrev pub Whys : Store → Input → Shelf → Answer → Type 0
-Whys store input library = LooksAt store (λ d. WhysOn d input library)
+abbrev pub WhyAnswer : Store → Input → Shelf → Answer → Type 0
+WhyAnswer store input library = LookAnswer store (λ d. WhyAnswerOn d input library)
 
 -- ---- what is told
 
@@ -100,12 +100,13 @@ TellsAsked (Err refusal) answer = TellsRefusal refusal answer
 
 -- a set is valid, and that was printed
 abbrev pub IsPossiblePrinted : Store → Input → Shelf → Printed → Type 0
-IsPossiblePrinted store input library printed = (d : Device) × IsFound store d × IsPossible d input library × Prints printed possible_line
+IsPossiblePrinted store input library printed = (d : Device) × IsFound store d × IsPossible d input library × HasPrinted printed possible_line
 
 -- the document's deployment closed as successful before, and that was printed again
 abbrev pub IsCloseRepeated : Store → Input → Shelf → Printed → Type 0
 IsCloseRepeated store input library printed =
-    (d : Device) × (id : List ℕ) × IsFound store d × IsQuestioned d input library (Err (Repeated id Successful)) × Prints printed (closed_line (id, Successful))
+    (d : Device) × (id : List ℕ) × IsFound store d × IsQuestioned d input library (Err (Repeated id Successful)) ×
+    HasPrinted printed (closed_line (id, Successful))
 
 -- no set is valid, and this is the text of a certificate
 abbrev pub IsImpossibleOn : Store → Input → Shelf → List ℕ → Type 0
@@ -113,14 +114,14 @@ IsImpossibleOn store input library text = (d : Device) × IsFound store d × IsI
 
 pub record WhyParts (store : Store) (input : Input) (library : Shelf) (printed : Printed) (result : Status) : Type 0 where
   -- The status and what was printed are those of an answer that comes by its cause, or the status is 6. With 15 nothing was printed.
-  pub which : (result ≡ status.Edge) ⊎ ((answer : Answer) × Whys store input library answer × (result ≡ status_of answer) ×
-      Prints printed (lines_of answer))
+  pub which : (result ≡ status.Edge) ⊎ ((answer : Answer) × WhyAnswer store input library answer × (result ≡ status_of answer) ×
+      HasPrinted printed (lines_of answer))
   -- Whatever it answers, every file reads as before.
   pub reads_only : IsUnchanged store
   -- 0: a set is valid, or the document's deployment closed as successful before.
   pub done : result ≡ status.Done → IsPossiblePrinted store input library printed ⊎ IsCloseRepeated store input library printed
   -- 3: none is valid, and the text of a certificate was printed.
-  pub no_version : result ≡ status.NoVersion → (text : List ℕ) × IsImpossibleOn store input library text × Prints printed text
+  pub no_version : result ≡ status.NoVersion → (text : List ℕ) × IsImpossibleOn store input library text × HasPrinted printed text
   -- 4 comes exactly where a deployment is pending. The source is then left as it was.
   pub pending : PendingParts store input printed result
   -- 8 and 9 come exactly where the journal gives no device.

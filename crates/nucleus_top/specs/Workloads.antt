@@ -11,18 +11,18 @@ use Rattle.device.specs.Devices.{Device}
 use Rattle.histories.specs.TraceEvents.{TraceEvent, records_of}
 use Rattle.histories.specs.States.{SessionState, state_after}
 use Rattle.law_histories.specs.Stood.{IsHistory}
-use Rattle.admission.specs.Requests.{Requests, TakesBy}
+use Rattle.admission.specs.Requests.{AskOutcome, TakesBy}
 use Rattle.admission.specs.declared.ask.Ask.TheVariants as ask
 use Rattle.admission.specs.declared.fault.Declined.{Declined}
-use Rattle.session.specs.Calls.{Ends}
-use Rattle.session.specs.Documents.{Follows}
+use Rattle.session.specs.Calls.{IsEndingOf}
+use Rattle.session.specs.Documents.{TakenEnding}
 use Rattle.session.specs.Endings.{Ending, status_of_ending}
 use Rattle.workload.specs.Answers.{is_want}
 use Rattle.workload.specs.Inputs.{documents_from, recipes_from}
 use Rattle.workload.specs.Tallies.{tally_line, tally_of}
-use Rattle.nucleus_top.specs.Answers.{Store, Printed, IsUnchanged, Prints}
+use Rattle.nucleus_top.specs.Answers.{Store, Printed, IsUnchanged, HasPrinted}
 use Rattle.nucleus_top.specs.Begun.{begun_device}
-use Rattle.nucleus_top.specs.Opening.{Stands}
+use Rattle.nucleus_top.specs.Opening.{IsImageOf}
 use Rattle.nucleus_top.specs.declared.answer.Answer.{Answer}
 use Rattle.nucleus_top.specs.declared.answer.Answer.TheVariants.{Drawn, NoMemory}
 
@@ -43,7 +43,7 @@ drawn_content seed = record { recipes = (recipes_from seed).value; artifact = λ
 
 -- the journal of the image stands for this device, which was begun
 abbrev pub IsBegunAs : Image → Device → Type 0
-IsBegunAs image d = Stands image d × IsSome d.origin
+IsBegunAs image d = IsImageOf image d × IsSome d.origin
 
 -- Over a library of this content the document makes this device of one without a pending deployment. It comes to a plan or not by the
 -- checks of `deploy` in their order, and what then happens is a history of a call. That ends for no want of memory, and leaves the device.
@@ -54,34 +54,34 @@ pub record IsDeployment (content : Content) (document : List ℕ) (d e : Device)
   pub before : ℕ
   pub after : ℕ
   pub taken : Result code.Plan Declined
-  pub takes : TakesBy (Requests ask.Document document) d origin (Some content) before after taken
-  pub place : SessionState
-  pub serves : place.serves ≡ false
-  pub device_is : place.device ≡ d
+  pub takes : TakesBy (AskOutcome ask.Document document) d origin (Some content) before after taken
+  pub state : SessionState
+  pub serves : state.serves ≡ false
+  pub device_is : state.device ≡ d
   pub history : List TraceEvent
-  pub is_history : IsHistory place history
+  pub is_history : IsHistory state history
   pub start : ℕ → ℕ
   pub ending : Ending
-  pub follows : Follows start taken ending (records_of history)
-  pub ends : Ends ending history (state_after place history)
+  pub follows : TakenEnding start taken ending (records_of history)
+  pub ends : IsEndingOf ending history (state_after state history)
   pub no_want : is_want (status_of_ending ending) ≡ false
-  pub leaves : e ≡ (state_after place history).device
+  pub leaves : e ≡ (state_after state history).device
 
 -- it is deployed so; or one is pending, and the device stays
-abbrev pub GoesThrough : Content → List ℕ → Device → Device → Type 0
-GoesThrough content document d e = IsDeployment content document d e ⊎ ((d.pending ≢ None) × (e ≡ d))
+abbrev pub DeviceAfterOne : Content → List ℕ → Device → Device → Type 0
+DeviceAfterOne content document d e = IsDeployment content document d e ⊎ ((d.pending ≢ None) × (e ≡ d))
 
 -- so the documents go through, one after another, each on the device that the one before it left
-abbrev pub GoThrough : Content → List (List ℕ) → Device → Device → Type 0
-GoThrough content [] d e = e ≡ d
-GoThrough content (document ∷ documents) d f = (e : Device) × GoesThrough content document d e × GoThrough content documents e f
+abbrev pub DeviceAfterAll : Content → List (List ℕ) → Device → Device → Type 0
+DeviceAfterAll content [] d e = e ≡ d
+DeviceAfterAll content (document ∷ documents) d f = (e : Device) × DeviceAfterOne content document d e × DeviceAfterAll content documents e f
 
 -- ---- the answer
 
 -- the drawn documents went through from a new store on, and the line has the counts of the closed list in the end
 abbrev pub IsTally : ℕ → List ℕ → Type 0
 IsTally seed text =
-    (d : Device) × GoThrough (drawn_content seed) (documents_from seed).value (begun_device workload_origin) d
+    (d : Device) × DeviceAfterAll (drawn_content seed) (documents_from seed).value (begun_device workload_origin) d
     × (text ≡ tally_line seed (tally_of d.closed))
 
 -- such a line, or want of memory
@@ -91,14 +91,14 @@ TellsTally seed NoMemory = ⊤
 TellsTally seed _ = ⊥
 
 -- Why an answer comes. Every file reads as before.
-abbrev pub Draws : ℕ → Store → Answer → Type 0
-Draws seed store (Drawn text) = IsUnchanged store × IsTally seed text
-Draws seed store NoMemory = IsUnchanged store
-Draws seed store _ = IsUnchanged store × ⊥
+abbrev pub WorkloadAnswer : ℕ → Store → Answer → Type 0
+WorkloadAnswer seed store (Drawn text) = IsUnchanged store × IsTally seed text
+WorkloadAnswer seed store NoMemory = IsUnchanged store
+WorkloadAnswer seed store _ = IsUnchanged store × ⊥
 
 pub record WorkloadParts (seed : ℕ) (store : Store) (printed : Printed) (result : Status) : Type 0 where
   -- 0, and the line was printed; or 6, or 15.
   pub which : (result ≡ status.Done) ⊎ (result ≡ status.Edge) ⊎ (result ≡ status.Memory)
-  pub done : result ≡ status.Done → (text : List ℕ) × IsTally seed text × Prints printed text
+  pub done : result ≡ status.Done → (text : List ℕ) × IsTally seed text × HasPrinted printed text
   -- Whatever it answers, every file reads as before.
   pub reads_only : IsUnchanged store

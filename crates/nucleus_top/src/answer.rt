@@ -1,7 +1,7 @@
 ghost use Rattle.std.specs.Prelude.{◌≡◌, ◌≤◌, OnOk};
 ghost use Rattle.nuc_base.specs.Faults.{HasCause};
-ghost use Rattle.edges.specs.Pieces.{Writes};
-ghost use Rattle.nucleus_top.specs.Answers.{status_of, lines_of, printed_over, Told};
+ghost use Rattle.edges.specs.Pieces.{WriteOutcome};
+ghost use Rattle.nucleus_top.specs.Answers.{status_of, lines_of, printed_over, IsPrinted};
 
 use crate::explanation::Explanation;
 use edges::{EdgeFault, Sink, write_all, write_pieces};
@@ -81,7 +81,7 @@ impl Answer {
 
     /// Prints the lines of the answer.
     fn print<K: Sink>(&self, sink: &mut K) -> Result<(), EdgeFault>
-        ensures lines { Writes (K.held sink.old) (K.held sink.new) (lines_of self.now) result }
+        ensures lines { WriteOutcome (K.held sink.old) (K.held sink.new) (lines_of self.now) result }
         ensures cause { HasCause (K.faults sink.old) (K.faults sink.new) result }
         ensures quiet { OnOk result (K.faults sink.new ≡ K.faults sink.old) }
     {
@@ -119,7 +119,7 @@ impl Answer {
 
     /// Prints the lines, and answers the status: 6 where they could not be written.
     pub fn tell<K: Sink>(&self, sink: &mut K) -> Status
-        ensures told { Told (printed_over K.Sink sink.old sink.new) result self.now }
+        ensures is_printed { IsPrinted (printed_over K.Sink sink.old sink.new) result self.now }
         ensures later { K.faults sink.old ≤ K.faults sink.new }
     {
         match self.print(sink) {

@@ -1,6 +1,6 @@
 // Whether the words ask a command that drives a deployment.
 ghost use Rattle.std.specs.Prelude.{◌≡◌, map, string_bytes};
-ghost use Rattle.nucleus_top.specs.Asked.{AsksFor, asked_of};
+ghost use Rattle.nucleus_top.specs.Asked.{AreWordsFor, asked_of};
 
 use admission::Ask;
 use command_words::{Order, WordsFault, read_words, words_ask_one_thing};
@@ -41,7 +41,7 @@ fn asked_by(order: Order) -> Asked
 
 /// What the words of the command line ask.
 pub(crate) fn read_asked(alloc: Global, words: &Vec<String>) -> Asked
-    ensures { AsksFor (map string_bytes words.now.items) result }
+    ensures { AreWordsFor (map string_bytes words.now.items) result }
 {
     words_ask_one_thing();
     match read_words(alloc, words) {

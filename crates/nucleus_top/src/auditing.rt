@@ -1,14 +1,14 @@
 // The command `audit`.
 ghost use Rattle.std.specs.Prelude.{◌≡◌, ◌≢◌, ◌≤◌, ◌++◌, ◌∷◌, [], ℕ, List, IfOk};
-ghost use Rattle.disk_model.specs.Disk.{Leaves};
+ghost use Rattle.disk_model.specs.Disk.{HasLeft};
 ghost use Rattle.disk_model.specs.Listing.{artifacts};
 ghost use Rattle.nuc_base.specs.Faults.{Rose};
 ghost use Rattle.command_words.specs.declared.order.Order.TheVariants as order;
 ghost use Rattle.device.specs.Devices.{device_view};
 ghost use Rattle.status_text.specs.Status.{line};
 ghost use Rattle.nucleus_top.specs.Answers.{store_over};
-ghost use Rattle.nucleus_top.specs.Audits.{Audits, Compares, differs_line};
-ghost use Rattle.nucleus_top.specs.Leaving.{Keeps};
+ghost use Rattle.nucleus_top.specs.Audits.{AuditAnswer, ComparisonAnswer, differs_line};
+ghost use Rattle.nucleus_top.specs.Leaving.{IsDurableIfDone};
 
 use crate::answer::Answer;
 use crate::opening::{HasDevice, open, refused};
@@ -49,9 +49,9 @@ fn differs_text(alloc: Global, file: &FileName, digest: &[u8; 32]) -> Result<Tex
 
 /// Compares the files of the device's artifacts with their digests.
 fn compare<D: Disk>(alloc: Global, disk: &mut D, device: &Device) -> Answer
-    ensures comes { Compares D.is_modelled (D.seen disk.old) (device_view device.now) result }
+    ensures comes { ComparisonAnswer D.is_modelled (D.seen disk.old) (device_view device.now) result }
     ensures seen { D.seen disk.new ≡ D.seen disk.old }
-    ensures moments { Leaves D.moment D.left_since disk.old disk.new (D.may_leave disk.old) }
+    ensures moments { HasLeft D.moment D.left_since disk.old disk.new (D.may_leave disk.old) }
     ensures cause { result ≡ Answer.DiskFailed → Rose (D.faults disk.old) (D.faults disk.new) }
     ensures quiet { result ≢ Answer.DiskFailed → D.faults disk.new ≡ D.faults disk.old }
     ensures later { D.faults disk.old ≤ D.faults disk.new }
@@ -70,9 +70,9 @@ fn compare<D: Disk>(alloc: Global, disk: &mut D, device: &Device) -> Answer
 
 /// The same of a state's device.
 fn compare_stored<D: Disk, S: HasDevice + Drop>(alloc: Global, disk: &mut D, state: S) -> Answer
-    ensures comes { Compares D.is_modelled (D.seen disk.old) (S.stands_for state) result }
+    ensures comes { ComparisonAnswer D.is_modelled (D.seen disk.old) (S.stands_for state) result }
     ensures seen { D.seen disk.new ≡ D.seen disk.old }
-    ensures moments { Leaves D.moment D.left_since disk.old disk.new (D.may_leave disk.old) }
+    ensures moments { HasLeft D.moment D.left_since disk.old disk.new (D.may_leave disk.old) }
     ensures cause { result ≡ Answer.DiskFailed → Rose (D.faults disk.old) (D.faults disk.new) }
     ensures quiet { result ≢ Answer.DiskFailed → D.faults disk.new ≡ D.faults disk.old }
     ensures later { D.faults disk.old ≤ D.faults disk.new }
@@ -83,9 +83,9 @@ fn compare_stored<D: Disk, S: HasDevice + Drop>(alloc: Global, disk: &mut D, sta
 /// Compares the files of the artifacts of the device for which the journal stands, those of its set and of its pending
 /// plan, with the digests that are kept. It writes nothing to the disk.
 pub fn audit<D: Disk>(alloc: Global, disk: &mut D) -> Answer
-    ensures comes { Audits (store_over D.Disk disk.old disk.new) result }
-    ensures moments { Leaves D.moment D.left_since disk.old disk.new (D.may_leave disk.old) }
-    ensures keeps { Keeps order.Audit (D.may_leave disk.new) (D.seen disk.new) result }
+    ensures comes { AuditAnswer (store_over D.Disk disk.old disk.new) result }
+    ensures moments { HasLeft D.moment D.left_since disk.old disk.new (D.may_leave disk.old) }
+    ensures keeps { IsDurableIfDone order.Audit (D.may_leave disk.new) (D.seen disk.new) result }
     ensures seen { D.seen disk.new ≡ D.seen disk.old }
     ensures quiet { result ≢ Answer.DiskFailed → D.faults disk.new ≡ D.faults disk.old }
     ensures later { D.faults disk.old ≤ D.faults disk.new }

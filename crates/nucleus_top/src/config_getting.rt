@@ -1,13 +1,13 @@
 // The command `config-get`.
 ghost use Rattle.std.specs.Prelude.{◌≡◌, ◌≢◌, ◌≤◌, ◌++◌, ◌∷◌, [], codes, IfOk, OnOk};
-ghost use Rattle.disk_model.specs.Disk.{Leaves};
+ghost use Rattle.disk_model.specs.Disk.{HasLeft};
 ghost use Rattle.command_words.specs.declared.order.Order.TheVariants as order;
 ghost use Rattle.deploy_state.specs.Loading.{IsReady};
 ghost use Rattle.device.specs.Devices.{device_view, IsRegularDevice};
 ghost use Rattle.status_text.specs.Status.{line};
 ghost use Rattle.nucleus_top.specs.Answers.{store_over};
-ghost use Rattle.nucleus_top.specs.Gets.{Gets, GetsOn, TellsAbsence, TellsNode, escaped, escaped_byte, pointer_text};
-ghost use Rattle.nucleus_top.specs.Leaving.{Keeps};
+ghost use Rattle.nucleus_top.specs.Gets.{GetAnswer, GetAnswerOn, TellsAbsence, TellsNode, escaped, escaped_byte, pointer_text};
+ghost use Rattle.nucleus_top.specs.Leaving.{IsDurableIfDone};
 
 use crate::answer::Answer;
 use crate::opening::{HasDevice, open, refused};
@@ -99,7 +99,7 @@ fn got(node: Text) -> Answer
 /// The node that the pointer names in the configuration of the component.
 fn get_on(alloc: Global, name: &Name, at: &Pointer, device: &Device) -> Answer
     requires regular { IsRegularDevice (device_view device.now) }
-    ensures { GetsOn (device_view device.now) name.now at.now result }
+    ensures { GetAnswerOn (device_view device.now) name.now at.now result }
 {
     match config_get(alloc, device, name, at) {
         Ok(node) => got(node),
@@ -112,7 +112,7 @@ fn get_on(alloc: Global, name: &Name, at: &Pointer, device: &Device) -> Answer
 /// The same of a state's device.
 fn get_stored<S: HasDevice + Drop>(alloc: Global, name: &Name, at: &Pointer, state: S) -> Answer
     requires ready { IsReady (S.stands_for state) }
-    ensures { GetsOn (S.stands_for state) name.now at.now result }
+    ensures { GetAnswerOn (S.stands_for state) name.now at.now result }
 {
     get_on(alloc, name, at, state.stored())
 }
@@ -120,9 +120,9 @@ fn get_stored<S: HasDevice + Drop>(alloc: Global, name: &Name, at: &Pointer, sta
 /// Prints a node of the configuration of a component of the device for which the journal stands. It writes nothing to the
 /// disk.
 pub fn get<D: Disk>(alloc: Global, name: &Name, at: &Pointer, disk: &mut D) -> Answer
-    ensures comes { Gets name.now at.now (store_over D.Disk disk.old disk.new) result }
-    ensures moments { Leaves D.moment D.left_since disk.old disk.new (D.may_leave disk.old) }
-    ensures keeps { Keeps (order.ConfigGet name.now at.now) (D.may_leave disk.new) (D.seen disk.new) result }
+    ensures comes { GetAnswer name.now at.now (store_over D.Disk disk.old disk.new) result }
+    ensures moments { HasLeft D.moment D.left_since disk.old disk.new (D.may_leave disk.old) }
+    ensures keeps { IsDurableIfDone (order.ConfigGet name.now at.now) (D.may_leave disk.new) (D.seen disk.new) result }
     ensures seen { D.seen disk.new ≡ D.seen disk.old }
     ensures quiet { result ≢ Answer.DiskFailed → D.faults disk.new ≡ D.faults disk.old }
     ensures later { D.faults disk.old ≤ D.faults disk.new }

@@ -1,17 +1,17 @@
 // The commands that drive a deployment: those that deploy what the source has, and `resume`.
 ghost use Rattle.std.specs.Prelude.{◌≡◌, ◌≢◌, ◌⊎◌, ◌≤◌, [], ℕ, List, IsTrue, IfOk, IfErr, IsErrOf};
-ghost use Rattle.admission.specs.Requests.{IsInside, Requests};
+ghost use Rattle.admission.specs.Requests.{IsInside, AskOutcome};
 ghost use Rattle.admission.specs.declared.ask.Ask.TheVariants as asks;
 ghost use Rattle.deployment_doc.specs.Sound.{AreSound};
 ghost use Rattle.artifact_store.specs.Holding.{AllHoldDevice, HoldsDevice};
 ghost use Rattle.artifact_store.specs.Swept.{IsSwept, items_of};
-ghost use Rattle.disk_model.specs.Disk.{Leaves};
+ghost use Rattle.disk_model.specs.Disk.{HasLeft};
 ghost use Rattle.nuc_base.specs.Faults.{Rose};
 ghost use Rattle.nuc_base.specs.declared.status.Status.TheVariants as statuses;
 ghost use Rattle.checkpoint_log.specs.Slots.{slots_entries, slots_files};
 ghost use Rattle.deploy_state.specs.Accepting.{idle_log};
 ghost use Rattle.deploy_state.specs.States.{OwnsIdle, OwnsLoaded, idle_device, loaded_device};
-ghost use Rattle.session.specs.Calls.{Elsewhere, ChangesArtifactsAlone, Stays};
+ghost use Rattle.session.specs.Calls.{AreOthersSame, ChangesArtifactsAlone, HasNotFallen};
 ghost use Rattle.session.specs.Sweeping.{LeavesNoStray};
 ghost use Rattle.checkpoint_log.specs.declared.slots.Slots.{Slots as Journal};
 ghost use Rattle.deploy_state.specs.declared.state.Idle as idles;
@@ -19,9 +19,9 @@ ghost use Rattle.edges.specs.Reading.{ReadsUpTo};
 ghost use Rattle.nucleus_top.specs.Answers.{input_over, printed_over, shelf_over, store_over};
 ghost use Rattle.nucleus_top.specs.Crashes.{KeepsJournal, KeepsJournalOrFiles, KeepsSameWhole, LeavesSame};
 ghost use Rattle.nucleus_top.specs.Objects.{HoldsSlots, IsDeployedFrom, IsDeployedOver, IsInputDeployedOver, IsRefusedOver, IsResumedOver};
-ghost use Rattle.nucleus_top.specs.Opening.{HasEntry, Stands};
+ghost use Rattle.nucleus_top.specs.Opening.{HasEntry, IsImageOf};
 ghost use Rattle.nucleus_top.specs.Drives.{IsMade, IsUnread, IsUnswept, NamesPendingOf, StartsFrom};
-ghost use Rattle.nucleus_top.specs.Drives.{TellsSweep, TellsUnread, TurnsAway, MayNotOpen, MayNotOpenIdle, shelf_for, slots_start};
+ghost use Rattle.nucleus_top.specs.Drives.{TellsSweep, TellsUnread, MayNotDeploy, MayNotOpen, MayNotOpenIdle, shelf_for, slots_start};
 
 use crate::answer::Answer;
 use crate::opening::{HasDevice, open, refused};
@@ -54,10 +54,10 @@ fn unswept(fault: SweepFault) -> Answer
 fn swept<T: HasDevice + Drop, D: Disk>(alloc: Global, state: T, disk: &mut D) -> Result<T, Answer>
     ensures kept { IfOk result (λ s. s ≡ state) }
     ensures spared { ChangesArtifactsAlone D.may_leave D.moment D.left_since disk.old disk.new }
-    ensures safe { AllHoldDevice (D.may_leave disk.old) (T.stands_for state) → Leaves D.moment D.left_since disk.old disk.new
+    ensures safe { AllHoldDevice (D.may_leave disk.old) (T.stands_for state) → HasLeft D.moment D.left_since disk.old disk.new
         (λ c. HoldsDevice c (T.stands_for state)) }
     ensures clean { IsTrue D.is_modelled → IfOk result (λ s. IsSwept (items_of (T.stands_for s)) (D.seen disk.new)) }
-    ensures others { IsTrue D.is_modelled → Elsewhere slots_files (D.seen disk.old) (D.seen disk.new) }
+    ensures others { IsTrue D.is_modelled → AreOthersSame slots_files (D.seen disk.old) (D.seen disk.new) }
     ensures disk { IsErrOf result Answer.DiskFailed → Rose (D.faults disk.old) (D.faults disk.new) }
     ensures quiet { ¬ (IsErrOf result Answer.DiskFailed) → D.faults disk.new ≡ D.faults disk.old }
     ensures later { D.faults disk.old ≤ D.faults disk.new }
@@ -71,7 +71,7 @@ fn swept<T: HasDevice + Drop, D: Disk>(alloc: Global, state: T, disk: &mut D) ->
 
 /// The device for which the journal stands, once stray files are swept.
 pub(crate) fn open_swept<D: Disk>(alloc: Global, disk: &mut D) -> Result<Loaded<Slots>, Answer>
-    ensures opened { IsTrue D.is_modelled → IfOk result (λ s. HasEntry (D.seen disk.old) × Stands (D.seen disk.old) (loaded_device s)) }
+    ensures opened { IsTrue D.is_modelled → IfOk result (λ s. HasEntry (D.seen disk.old) × IsImageOf (D.seen disk.old) (loaded_device s)) }
     ensures start { IsTrue D.is_modelled → IfOk result (λ s. (idle : idles.Idle Journal) → s ≡ Loaded.Idle idle →
         StartsFrom (D.seen disk.old) (idle_device idle) (slots_start (idle_log idle) (idle_device idle))) }
     ensures held { IfOk result (λ s. HoldsSlots D.Disk OwnsLoaded s disk.new) }
@@ -81,7 +81,7 @@ pub(crate) fn open_swept<D: Disk>(alloc: Global, disk: &mut D) -> Result<Loaded<
     ensures reads { KeepsJournalOrFiles D.may_leave D.seen disk.old disk.new }
     ensures spared { ChangesArtifactsAlone D.may_leave D.moment D.left_since disk.old disk.new }
     ensures clean { IsTrue D.is_modelled → IfOk result (λ s. IsSwept (items_of (loaded_device s)) (D.seen disk.new)) }
-    ensures others { IsTrue D.is_modelled → Elsewhere slots_files (D.seen disk.old) (D.seen disk.new) }
+    ensures others { IsTrue D.is_modelled → AreOthersSame slots_files (D.seen disk.old) (D.seen disk.new) }
     ensures disk { IsErrOf result Answer.DiskFailed → Rose (D.faults disk.old) (D.faults disk.new) }
     ensures quiet { ¬ (IsErrOf result Answer.DiskFailed) → D.faults disk.new ≡ D.faults disk.old }
     ensures later { D.faults disk.old ≤ D.faults disk.new }
@@ -120,7 +120,7 @@ fn idle_of(alloc: Global, state: Loaded<Slots>) -> Result<Idle<Slots>, Answer>
 
 /// The same of a device without a pending deployment. One with a pending deployment is refused.
 fn open_idle<D: Disk>(alloc: Global, disk: &mut D) -> Result<Idle<Slots>, Answer>
-    ensures opened { IsTrue D.is_modelled → IfOk result (λ s. HasEntry (D.seen disk.old) × Stands (D.seen disk.old) (idle_device s)) }
+    ensures opened { IsTrue D.is_modelled → IfOk result (λ s. HasEntry (D.seen disk.old) × IsImageOf (D.seen disk.old) (idle_device s)) }
     ensures start { IsTrue D.is_modelled → IfOk result (λ s. StartsFrom (D.seen disk.old) (idle_device s) (slots_start (idle_log s) (idle_device s))) }
     ensures held { IfOk result (λ s. HoldsSlots D.Disk OwnsIdle s disk.new) }
     ensures images { LeavesSame D.may_leave D.moment D.left_since D.seen disk.old disk.new }
@@ -129,7 +129,7 @@ fn open_idle<D: Disk>(alloc: Global, disk: &mut D) -> Result<Idle<Slots>, Answer
     ensures reads { KeepsJournalOrFiles D.may_leave D.seen disk.old disk.new }
     ensures spared { ChangesArtifactsAlone D.may_leave D.moment D.left_since disk.old disk.new }
     ensures clean { IsTrue D.is_modelled → IfOk result (λ s. IsSwept (items_of (idle_device s)) (D.seen disk.new)) }
-    ensures others { IsTrue D.is_modelled → Elsewhere slots_files (D.seen disk.old) (D.seen disk.new) }
+    ensures others { IsTrue D.is_modelled → AreOthersSame slots_files (D.seen disk.old) (D.seen disk.new) }
     ensures disk { IsErrOf result Answer.DiskFailed → Rose (D.faults disk.old) (D.faults disk.new) }
     ensures quiet { ¬ (IsErrOf result Answer.DiskFailed) → D.faults disk.new ≡ D.faults disk.old }
     ensures later { D.faults disk.old ≤ D.faults disk.new }
@@ -169,12 +169,12 @@ fn deploy_made<D: Disk, L: Library, K: Sink, R: Runner>(
         (idle_device idle) (slots_start (idle_log idle) (idle_device idle)) (shelf_over L.Library library.old library.new)
         (IsMade made) }
     ensures none { R.living runner.new ≡ [] }
-    ensures others { IsTrue D.is_modelled → Elsewhere slots_files (D.seen disk.old) (D.seen disk.new) }
+    ensures others { IsTrue D.is_modelled → AreOthersSame slots_files (D.seen disk.old) (D.seen disk.new) }
     ensures disk { result ≡ statuses.Disk → Rose (D.faults disk.old) (D.faults disk.new) }
     ensures edge { result ≡ statuses.Edge → Rose (K.faults sink.old) (K.faults sink.new) }
     ensures quiet_disk { result ≢ statuses.Disk → result ≢ statuses.Edge → D.faults disk.new ≡ D.faults disk.old }
     ensures quiet_sink { result ≢ statuses.Edge → K.faults sink.new ≡ K.faults sink.old }
-    ensures later { Stays (D.faults disk.old) (D.faults disk.new) × Stays (K.faults sink.old) (K.faults sink.new) }
+    ensures later { HasNotFallen (D.faults disk.old) (D.faults disk.new) × HasNotFallen (K.faults sink.old) (K.faults sink.new) }
     ensures library { result ≡ statuses.Library → Rose (L.faults library.old) (L.faults library.new) }
     ensures library_quiet { result ≢ statuses.Library → result ≢ statuses.Edge → L.faults library.new ≡ L.faults library.old }
     ensures library_later { L.faults library.old ≤ L.faults library.new }
@@ -215,14 +215,14 @@ fn deploy_bytes<D: Disk, L: Library, K: Sink, R: Runner>(
     requires none { R.living runner.old ≡ [] }
     ensures driven { IsDeployedOver D.Disk K.Sink R.Runner disk.old disk.new sink.old sink.new runner.old runner.new result
         (idle_device idle) (slots_start (idle_log idle) (idle_device idle)) (shelf_for what.now (shelf_over L.Library library.old library.new))
-        (Requests what.now bytes.now) }
+        (AskOutcome what.now bytes.now) }
     ensures none { R.living runner.new ≡ [] }
-    ensures others { IsTrue D.is_modelled → Elsewhere slots_files (D.seen disk.old) (D.seen disk.new) }
+    ensures others { IsTrue D.is_modelled → AreOthersSame slots_files (D.seen disk.old) (D.seen disk.new) }
     ensures disk { result ≡ statuses.Disk → Rose (D.faults disk.old) (D.faults disk.new) }
     ensures edge { result ≡ statuses.Edge → Rose (K.faults sink.old) (K.faults sink.new) }
     ensures quiet_disk { result ≢ statuses.Disk → result ≢ statuses.Edge → D.faults disk.new ≡ D.faults disk.old }
     ensures quiet_sink { result ≢ statuses.Edge → K.faults sink.new ≡ K.faults sink.old }
-    ensures later { Stays (D.faults disk.old) (D.faults disk.new) × Stays (K.faults sink.old) (K.faults sink.new) }
+    ensures later { HasNotFallen (D.faults disk.old) (D.faults disk.new) × HasNotFallen (K.faults sink.old) (K.faults sink.new) }
     ensures library { result ≡ statuses.Library → Rose (L.faults library.old) (L.faults library.new) }
     ensures library_quiet { result ≢ statuses.Library → result ≢ statuses.Edge → L.faults library.new ≡ L.faults library.old }
     ensures library_later { L.faults library.old ≤ L.faults library.new }
@@ -258,11 +258,11 @@ fn deploy_read<D: Disk, L: Library, S: Source, K: Sink, R: Runner>(
         (idle_device idle) (slots_start (idle_log idle) (idle_device idle)) (input_over S.Source source.old source.new)
         (shelf_for what.now (shelf_over L.Library library.old library.new)) }
     ensures none { R.living runner.new ≡ [] }
-    ensures others { IsTrue D.is_modelled → Elsewhere slots_files (D.seen disk.old) (D.seen disk.new) }
+    ensures others { IsTrue D.is_modelled → AreOthersSame slots_files (D.seen disk.old) (D.seen disk.new) }
     ensures disk { result ≡ statuses.Disk → Rose (D.faults disk.old) (D.faults disk.new) }
     ensures quiet_disk { result ≢ statuses.Disk → result ≢ statuses.Edge → D.faults disk.new ≡ D.faults disk.old }
     ensures quiet_sink { result ≢ statuses.Edge → K.faults sink.new ≡ K.faults sink.old }
-    ensures later { Stays (D.faults disk.old) (D.faults disk.new) × Stays (K.faults sink.old) (K.faults sink.new) }
+    ensures later { HasNotFallen (D.faults disk.old) (D.faults disk.new) × HasNotFallen (K.faults sink.old) (K.faults sink.new) }
     ensures library { result ≡ statuses.Library → Rose (L.faults library.old) (L.faults library.new) }
     ensures library_quiet { result ≢ statuses.Library → result ≢ statuses.Edge → L.faults library.new ≡ L.faults library.old }
     ensures library_later { L.faults library.old ≤ L.faults library.new }
@@ -309,16 +309,16 @@ pub(crate) fn deploy<D: Disk, L: Library, S: Source, K: Sink, R: Runner>(
 ) -> Status
     requires none { R.living runner.old ≡ [] }
     ensures ran { (IsRefusedOver D.Disk K.Sink disk.old disk.new sink.old sink.new result
-        (λ store answer. TurnsAway store (input_over S.Source source.old source.new) answer) × (runner.new ≡ runner.old))
+        (λ store answer. MayNotDeploy store (input_over S.Source source.old source.new) answer) × (runner.new ≡ runner.old))
         ⊎ IsDeployedFrom D.Disk K.Sink R.Runner disk.old disk.new sink.old sink.new runner.old runner.new result what.now
         (input_over S.Source source.old source.new)
         (shelf_over L.Library library.old library.new) }
     ensures none { R.living runner.new ≡ [] }
-    ensures others { IsTrue D.is_modelled → Elsewhere slots_files (D.seen disk.old) (D.seen disk.new) }
+    ensures others { IsTrue D.is_modelled → AreOthersSame slots_files (D.seen disk.old) (D.seen disk.new) }
     ensures disk { result ≡ statuses.Disk → Rose (D.faults disk.old) (D.faults disk.new) }
     ensures quiet_disk { result ≢ statuses.Disk → result ≢ statuses.Edge → D.faults disk.new ≡ D.faults disk.old }
     ensures quiet_sink { result ≢ statuses.Edge → K.faults sink.new ≡ K.faults sink.old }
-    ensures later { Stays (D.faults disk.old) (D.faults disk.new) × Stays (K.faults sink.old) (K.faults sink.new) }
+    ensures later { HasNotFallen (D.faults disk.old) (D.faults disk.new) × HasNotFallen (K.faults sink.old) (K.faults sink.new) }
     ensures library { result ≡ statuses.Library → Rose (L.faults library.old) (L.faults library.new) }
     ensures library_quiet { result ≢ statuses.Library → result ≢ statuses.Edge → L.faults library.new ≡ L.faults library.old }
     ensures library_later { L.faults library.old ≤ L.faults library.new }
@@ -351,13 +351,13 @@ pub(crate) fn resume<D: Disk, K: Sink, R: Runner>(
     ensures ran { (IsRefusedOver D.Disk K.Sink disk.old disk.new sink.old sink.new result (λ store answer. MayNotOpen store answer) × (runner.new ≡ runner.old))
         ⊎ IsResumedOver D.Disk K.Sink R.Runner disk.old disk.new sink.old sink.new runner.old runner.new result }
     ensures none { R.living runner.new ≡ [] }
-    ensures others { IsTrue D.is_modelled → Elsewhere slots_files (D.seen disk.old) (D.seen disk.new) }
+    ensures others { IsTrue D.is_modelled → AreOthersSame slots_files (D.seen disk.old) (D.seen disk.new) }
     ensures disk { result ≡ statuses.Disk → Rose (D.faults disk.old) (D.faults disk.new) }
     ensures edge { result ≡ statuses.Edge → Rose (K.faults sink.old) (K.faults sink.new) }
     ensures own { result ≢ statuses.Library }
     ensures quiet_disk { result ≢ statuses.Disk → result ≢ statuses.Edge → D.faults disk.new ≡ D.faults disk.old }
     ensures quiet_sink { result ≢ statuses.Edge → K.faults sink.new ≡ K.faults sink.old }
-    ensures later { Stays (D.faults disk.old) (D.faults disk.new) × Stays (K.faults sink.old) (K.faults sink.new) }
+    ensures later { HasNotFallen (D.faults disk.old) (D.faults disk.new) × HasNotFallen (K.faults sink.old) (K.faults sink.new) }
     ensures swept { LeavesNoStray D.is_modelled slots_entries result (D.seen disk.new) }
 {
     match open_swept(alloc, disk) {

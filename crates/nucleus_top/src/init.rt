@@ -1,7 +1,7 @@
 // The command `init`.
 ghost use Rattle.std.specs.Prelude.{◌≡◌, ◌≢◌, ◌≤◌, ℕ, List, IsTrue, length};
 ghost use Rattle.std.specs.Option.{IsSome};
-ghost use Rattle.disk_model.specs.Disk.{Leaves};
+ghost use Rattle.disk_model.specs.Disk.{HasLeft};
 ghost use Rattle.gate_log.specs.Journal.{AreSettled};
 ghost use Rattle.checkpoint_log.specs.Slots.{slots_files, slots_none};
 ghost use Rattle.records.specs.declared.record.Origin.{Origin};
@@ -9,8 +9,8 @@ ghost use Rattle.command_words.specs.declared.order.Order.TheVariants as order;
 ghost use Rattle.deploy_state.specs.Loading.{IsReady};
 ghost use Rattle.device.specs.Devices.{device_view};
 ghost use Rattle.nucleus_top.specs.Answers.{store_over};
-ghost use Rattle.nucleus_top.specs.Inits.{Inits, NamesThing};
-ghost use Rattle.nucleus_top.specs.Leaving.{Keeps, LeavesOf};
+ghost use Rattle.nucleus_top.specs.Inits.{InitAnswer, NamesThing};
+ghost use Rattle.nucleus_top.specs.Leaving.{IsDurableIfDone, MayBeLeftAfter};
 
 use crate::answer::Answer;
 use crate::opening::{HasDevice, open, refused};
@@ -27,9 +27,9 @@ fn begin<D: Disk>(alloc: Global, origin: Origin, disk: &mut D) -> Answer
     requires none { IsTrue D.is_modelled → slots_none (D.seen disk.old) }
     requires settled { AreSettled D.seen D.may_leave slots_files disk.old }
     requires short { length origin.root ≤ 1024 }
-    ensures comes { Inits origin (store_over D.Disk disk.old disk.new) result }
-    ensures moments { Leaves D.moment D.left_since disk.old disk.new (LeavesOf (order.Init origin) (D.may_leave disk.old)) }
-    ensures keeps { Keeps (order.Init origin) (D.may_leave disk.new) (D.seen disk.new) result }
+    ensures comes { InitAnswer origin (store_over D.Disk disk.old disk.new) result }
+    ensures moments { HasLeft D.moment D.left_since disk.old disk.new (MayBeLeftAfter (order.Init origin) (D.may_leave disk.old)) }
+    ensures keeps { IsDurableIfDone (order.Init origin) (D.may_leave disk.new) (D.seen disk.new) result }
     ensures others { IsTrue D.is_modelled → (name : List ℕ) → ¬ (slots_files name) → D.seen disk.new name ≡ D.seen disk.old name }
     ensures quiet { result ≢ Answer.DiskFailed → D.faults disk.new ≡ D.faults disk.old }
     ensures later { D.faults disk.old ≤ D.faults disk.new }
@@ -72,9 +72,9 @@ fn initialised_stored<S: HasDevice + Drop>(alloc: Global, state: S) -> Answer
 /// Makes the store of this origin, unless there is one.
 pub fn init<D: Disk>(alloc: Global, origin: Origin, disk: &mut D) -> Answer
     requires { length origin.root ≤ 1024 }
-    ensures comes { Inits origin (store_over D.Disk disk.old disk.new) result }
-    ensures moments { Leaves D.moment D.left_since disk.old disk.new (LeavesOf (order.Init origin) (D.may_leave disk.old)) }
-    ensures keeps { Keeps (order.Init origin) (D.may_leave disk.new) (D.seen disk.new) result }
+    ensures comes { InitAnswer origin (store_over D.Disk disk.old disk.new) result }
+    ensures moments { HasLeft D.moment D.left_since disk.old disk.new (MayBeLeftAfter (order.Init origin) (D.may_leave disk.old)) }
+    ensures keeps { IsDurableIfDone (order.Init origin) (D.may_leave disk.new) (D.seen disk.new) result }
     ensures others { IsTrue D.is_modelled → (name : List ℕ) → ¬ (slots_files name) → D.seen disk.new name ≡ D.seen disk.old name }
     ensures quiet { result ≢ Answer.DiskFailed → D.faults disk.new ≡ D.faults disk.old }
     ensures later { D.faults disk.old ≤ D.faults disk.new }

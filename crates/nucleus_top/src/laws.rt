@@ -11,7 +11,7 @@ ghost use Rattle.nucleus_top.specs.Opening.{AreFound};
 ghost use Rattle.nucleus_top.specs.Reopening.{CallsReopen, ServesReopen};
 ghost use Rattle.nucleus_top.specs.Requested.{ChangesMoveOneItem, LocalsMoveOneGroup};
 ghost use Rattle.nucleus_top.specs.Series.{AcknowledgedLast, BeginsBehind, CallsRaise, CallsReach, DrivesEnd, DrivesGoOn, FirstBegins};
-ghost use Rattle.nucleus_top.specs.Series.{InitsBegin, OthersGoOn, TurnedEnd, TurnedGoOn};
+ghost use Rattle.nucleus_top.specs.Series.{InitsBegin, OthersGoOn, RefusedEnd, RefusedGoOn};
 
 use checkpoint_log::Slots;
 use device::revisions_rise;
@@ -31,7 +31,7 @@ pub fn nothing_is_lost()
 
 /// However calls are stopped, each image that they leave stands for the device that the records kept so far make of the one
 /// at their start, where each call begins with an image that a crash inside the call before it, or its end, may have left: of
-/// a call that came to its end these are all its records, or all but the last, and of one that was stopped some front.
+/// a call that came to its end these are all its records, or all but the last, and of one that was stopped some prefix.
 /// Its set, groups and closed list are those that the closed deployments give in order, and no deployment is lost that was
 /// accepted before. It is met where the one at the start is and devices stay so along each call, as they do along the records
 /// of `init` and of calls that bring no plan or one that is met. The calls of `deploy` and `resume` are such calls
@@ -52,16 +52,16 @@ pub fn calls_run_on()
 
 /// What is said of the images of `deploy`, `resume` and `serve` makes them such calls as `calls_run_on` takes: behind calls that may
 /// have left each image at their start, a call that drives a deployment is one more, which begins with the device for which
-/// one of these images stands and keeps its records, and one that is turned away keeps none. So is each that came to its end,
+/// one of these images stands and keeps its records, and one that is refused keeps none. So is each that came to its end,
 /// by what it says of the images that a crash may leave then. And there is a first one: on a disk that holds no entry a call begins behind
 /// none, so what is asked here can be met. What a call printed as accepted is pending or closed in each image that later calls leave, stopped
 /// or at their end (`deployed`, `served`, by `acknowledged`). It does nothing.
 pub fn calls_go_on<D: Disk>()
     ensures begins { FirstBegins D.may_leave D.is_modelled D.seen }
     ensures drives { DrivesGoOn D.may_leave D.moment D.left_since }
-    ensures turned { TurnedGoOn D.may_leave D.moment D.left_since D.seen }
+    ensures refused { RefusedGoOn D.may_leave D.moment D.left_since D.seen }
     ensures drives_end { DrivesEnd D.may_leave }
-    ensures turned_end { TurnedEnd D.may_leave D.is_modelled D.seen }
+    ensures refused_end { RefusedEnd D.may_leave D.is_modelled D.seen }
     ensures acknowledged { AcknowledgedLast D.may_leave }
     ensures deployed { DeployedStay D.may_leave D.moment D.left_since D.faults }
     ensures served { ServedStay D.Disk }

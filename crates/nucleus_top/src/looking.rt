@@ -1,14 +1,14 @@
 // The commands that drive no component: `init`, `status`, `plan`, `audit`, `config-get`, `why` and `workload`.
 ghost use Rattle.std.specs.Prelude.{◌≡◌, ◌≢◌, ◌≤◌, ℕ, List, map, string_bytes, IsTrue};
-ghost use Rattle.disk_model.specs.Disk.{Leaves};
+ghost use Rattle.disk_model.specs.Disk.{HasLeft};
 ghost use Rattle.nuc_base.specs.declared.status.Status.TheVariants as status;
 ghost use Rattle.command_words.specs.declared.order.Order.{Order};
 ghost use Rattle.command_words.specs.declared.order.Order.TheVariants as order;
 ghost use Rattle.edges.specs.Reading.{ReadsUpTo};
-ghost use Rattle.nucleus_top.specs.Words.{Asks};
+ghost use Rattle.nucleus_top.specs.Words.{AsksOrder};
 ghost use Rattle.nucleus_top.specs.Answers.{store_over, input_over, shelf_over, printed_over, IsQuiet, IsStill};
-ghost use Rattle.nucleus_top.specs.Leaving.{IsDurable, Keeps, MayLeave, files_of};
-ghost use Rattle.nucleus_top.specs.Parts.{Comes, Parts};
+ghost use Rattle.nucleus_top.specs.Leaving.{IsDurable, IsDurableIfDone, MayLeave, files_of};
+ghost use Rattle.nucleus_top.specs.Parts.{WordsAnswer, Parts};
 
 use crate::answer::Answer;
 use crate::auditing::audit;
@@ -34,20 +34,21 @@ fn answer<D: Disk, L: Library, S: Source>(
     library: &mut L,
     source: &mut S,
 ) -> Answer
-    ensures comes { Comes (map string_bytes words.now.items) (store_over D.Disk disk.old disk.new)
+    ensures comes { WordsAnswer (map string_bytes words.now.items) (store_over D.Disk disk.old disk.new)
         (input_over S.Source source.old source.new) (shelf_over L.Library library.old library.new) result }
     ensures quiet { IsQuiet (store_over D.Disk disk.old disk.new) (input_over S.Source source.old source.new) result }
     ensures still { IsStill (shelf_over L.Library library.old library.new) result }
-    ensures unread { (Asks (map string_bytes words.now.items) order.Plan → ⊥) → (Asks (map string_bytes words.now.items) order.Why → ⊥)
+    ensures unread { (AsksOrder (map string_bytes words.now.items) order.Plan → ⊥) → (AsksOrder (map string_bytes words.now.items) order.Why → ⊥)
         → source.new ≡ source.old }
-    ensures unasked { (Asks (map string_bytes words.now.items) order.Plan → ⊥) → (Asks (map string_bytes words.now.items) order.Why → ⊥)
+    ensures unasked { (AsksOrder (map string_bytes words.now.items) order.Plan → ⊥) → (AsksOrder (map string_bytes words.now.items) order.Why → ⊥)
         → library.new ≡ library.old }
     // `workload` does not touch the disk.
-    ensures alone { (seed : ℕ) → Asks (map string_bytes words.now.items) (order.Workload seed) → disk.new ≡ disk.old }
+    ensures alone { (seed : ℕ) → AsksOrder (map string_bytes words.now.items) (order.Workload seed) → disk.new ≡ disk.old }
     ensures kept { L.content library.new ≡ L.content library.old }
-    ensures moments { Leaves D.moment D.left_since disk.old disk.new (MayLeave (map string_bytes words.now.items) (D.may_leave disk.old)) }
-    ensures keeps { (order : Order) → Asks (map string_bytes words.now.items) order → Keeps order (D.may_leave disk.new) (D.seen disk.new) result }
-    ensures others { (order : Order) → Asks (map string_bytes words.now.items) order → IsTrue D.is_modelled →
+    ensures moments { HasLeft D.moment D.left_since disk.old disk.new (MayLeave (map string_bytes words.now.items) (D.may_leave disk.old)) }
+    ensures keeps { (order : Order) → AsksOrder (map string_bytes words.now.items) order →
+        IsDurableIfDone order (D.may_leave disk.new) (D.seen disk.new) result }
+    ensures others { (order : Order) → AsksOrder (map string_bytes words.now.items) order → IsTrue D.is_modelled →
         (name : List ℕ) → ¬ (files_of order name) → D.seen disk.new name ≡ D.seen disk.old name }
     ensures disk_later { D.faults disk.old ≤ D.faults disk.new }
     ensures library_later { L.faults library.old ≤ L.faults library.new }
@@ -88,19 +89,19 @@ pub(crate) fn look<D: Disk, L: Library, S: Source, K: Sink>(
         (input_over S.Source source.old source.new) (shelf_over L.Library library.old library.new)
         (printed_over K.Sink sink.old sink.new) result }
     // `plan` and `why` alone read from the source and ask the library.
-    ensures unread { (Asks (map string_bytes words.now.items) order.Plan → ⊥) → (Asks (map string_bytes words.now.items) order.Why → ⊥)
+    ensures unread { (AsksOrder (map string_bytes words.now.items) order.Plan → ⊥) → (AsksOrder (map string_bytes words.now.items) order.Why → ⊥)
         → source.new ≡ source.old }
-    ensures unasked { (Asks (map string_bytes words.now.items) order.Plan → ⊥) → (Asks (map string_bytes words.now.items) order.Why → ⊥)
+    ensures unasked { (AsksOrder (map string_bytes words.now.items) order.Plan → ⊥) → (AsksOrder (map string_bytes words.now.items) order.Why → ⊥)
         → library.new ≡ library.old }
     // `workload` does not touch the disk.
-    ensures alone { (seed : ℕ) → Asks (map string_bytes words.now.items) (order.Workload seed) → disk.new ≡ disk.old }
+    ensures alone { (seed : ℕ) → AsksOrder (map string_bytes words.now.items) (order.Workload seed) → disk.new ≡ disk.old }
     ensures library_kept { L.content library.new ≡ L.content library.old }
     // Whenever a crash comes during the call, it leaves an image that the start allowed, or what the command may make of one.
-    ensures moments { Leaves D.moment D.left_since disk.old disk.new (MayLeave (map string_bytes words.now.items) (D.may_leave disk.old)) }
+    ensures moments { HasLeft D.moment D.left_since disk.old disk.new (MayLeave (map string_bytes words.now.items) (D.may_leave disk.old)) }
     // Once the lines of finished work are printed, a crash does not undo it.
-    ensures durable { (order : Order) → Asks (map string_bytes words.now.items) order → result ≡ status.Done →
+    ensures durable { (order : Order) → AsksOrder (map string_bytes words.now.items) order → result ≡ status.Done →
         IsDurable order (D.may_leave disk.new) (D.seen disk.new) }
-    ensures others { (order : Order) → Asks (map string_bytes words.now.items) order → IsTrue D.is_modelled →
+    ensures others { (order : Order) → AsksOrder (map string_bytes words.now.items) order → IsTrue D.is_modelled →
         (name : List ℕ) → ¬ (files_of order name) → D.seen disk.new name ≡ D.seen disk.old name }
     ensures disk_later { D.faults disk.old ≤ D.faults disk.new }
     ensures library_later { L.faults library.old ≤ L.faults library.new }

@@ -2,12 +2,12 @@
 ghost use Rattle.std.specs.Prelude.{◌≡◌, ◌≤◌, IfOk, IsErrOf, IsTrue};
 ghost use Rattle.device.specs.Devices.{Device as Stored, device_view};
 ghost use Rattle.nuc_base.specs.Faults.{Rose};
-ghost use Rattle.disk_model.specs.Disk.{Leaves};
+ghost use Rattle.disk_model.specs.Disk.{HasLeft};
 ghost use Rattle.gate_log.specs.Journal.{AreSettled};
 ghost use Rattle.checkpoint_log.specs.Slots.{slots_files, slots_stands};
 ghost use Rattle.deploy_state.specs.Loading.{IsReady};
 ghost use Rattle.deploy_state.specs.States.{OwnsLoaded, loaded_device};
-ghost use Rattle.nucleus_top.specs.Opening.{Opens};
+ghost use Rattle.nucleus_top.specs.Opening.{OpenAnswer};
 ghost use Rattle.nucleus_top.specs.Inits.{IsPlace};
 ghost use Rattle.nucleus_top.specs.Refusing.{TellsFault};
 
@@ -41,13 +41,13 @@ impl HasDevice for Loaded<Slots> {
 
 /// Makes the journal stable and replays it. It writes nothing.
 pub fn open<D: Disk>(alloc: Global, disk: &mut D) -> Result<Loaded<Slots>, LoadFault>
-    ensures told { IsTrue D.is_modelled → Opens (D.seen disk.old) result }
+    ensures told { IsTrue D.is_modelled → OpenAnswer (D.seen disk.old) result }
     ensures held { IfOk result (λ s. OwnsLoaded D.is_modelled D.may_leave slots_stands (λ log. log.live.end) s disk.new) }
     ensures ready { IfOk result (λ s. IsReady (loaded_device s)) }
     // A crash leaves the journal as it reads.
     ensures settled { ¬ (IsErrOf result LoadFault.Disk) → AreSettled D.seen D.may_leave slots_files disk.new }
     ensures seen { D.seen disk.new ≡ D.seen disk.old }
-    ensures moments { Leaves D.moment D.left_since disk.old disk.new (D.may_leave disk.old) }
+    ensures moments { HasLeft D.moment D.left_since disk.old disk.new (D.may_leave disk.old) }
     ensures cause { IsErrOf result LoadFault.Disk → Rose (D.faults disk.old) (D.faults disk.new) }
     ensures quiet { ¬ (IsErrOf result LoadFault.Disk) → D.faults disk.new ≡ D.faults disk.old }
     ensures later { D.faults disk.old ≤ D.faults disk.new }

@@ -1,15 +1,15 @@
 // The command `plan`.
 ghost use Rattle.std.specs.Prelude.{◌≡◌, ◌≢◌, ◌≤◌, None};
 ghost use Rattle.std.specs.Option.{IsSome};
-ghost use Rattle.disk_model.specs.Disk.{Leaves};
+ghost use Rattle.disk_model.specs.Disk.{HasLeft};
 ghost use Rattle.command_words.specs.declared.order.Order.TheVariants as order;
 ghost use Rattle.deploy_state.specs.Loading.{IsReady};
 ghost use Rattle.device.specs.Devices.{device_view, IsRegularDevice};
 ghost use Rattle.device.specs.Sound.{IsSound};
 ghost use Rattle.edges.specs.Reading.{ReadsUpTo};
 ghost use Rattle.nucleus_top.specs.Answers.{store_over, input_over, shelf_over, IsQuiet, IsStill};
-ghost use Rattle.nucleus_top.specs.Leaving.{Keeps};
-ghost use Rattle.nucleus_top.specs.Planning.{TellsDraft, TellsRefusal, Tells, NamesPending, PlansOn, Plans};
+ghost use Rattle.nucleus_top.specs.Leaving.{IsDurableIfDone};
+ghost use Rattle.nucleus_top.specs.Planning.{TellsDraft, TellsRefusal, ProposalAnswer, NamesPending, PlanAnswerOn, PlanAnswer};
 
 use crate::answer::Answer;
 use crate::opening::{HasDevice, open, refused};
@@ -52,7 +52,7 @@ pub(crate) fn unplanned(alloc: Global, refusal: Refusal) -> Answer
 }
 
 fn told(alloc: Global, proposal: Result<Draft, Refusal>) -> Answer
-    ensures { Tells proposal result }
+    ensures { ProposalAnswer proposal result }
 {
     match proposal {
         Ok(draft) => planned(alloc, &draft),
@@ -71,7 +71,7 @@ fn plan_idle<L: Library, S: Source>(
     requires idle { device.now.pending ≡ None }
     requires sound { IsSound (device_view device.now) }
     requires regular { IsRegularDevice (device_view device.now) }
-    ensures comes { PlansOn (device_view device.now) (input_over S.Source source.old source.new) (shelf_over L.Library library.old library.new)
+    ensures comes { PlanAnswerOn (device_view device.now) (input_over S.Source source.old source.new) (shelf_over L.Library library.old library.new)
         result }
     ensures still { IsStill (shelf_over L.Library library.old library.new) result }
     ensures kept { L.content library.new ≡ L.content library.old }
@@ -109,7 +109,7 @@ fn plan_on<L: Library, S: Source>(
     requires origin { IsSome device.now.origin }
     requires sound { IsSound (device_view device.now) }
     requires regular { IsRegularDevice (device_view device.now) }
-    ensures comes { PlansOn (device_view device.now) (input_over S.Source source.old source.new) (shelf_over L.Library library.old library.new)
+    ensures comes { PlanAnswerOn (device_view device.now) (input_over S.Source source.old source.new) (shelf_over L.Library library.old library.new)
         result }
     ensures still { IsStill (shelf_over L.Library library.old library.new) result }
     ensures kept { L.content library.new ≡ L.content library.old }
@@ -132,7 +132,7 @@ fn plan_stored<T: HasDevice + Drop, L: Library, S: Source>(
     source: &mut S,
 ) -> Answer
     requires ready { IsReady (T.stands_for state) }
-    ensures comes { PlansOn (T.stands_for state) (input_over S.Source source.old source.new) (shelf_over L.Library library.old library.new) result }
+    ensures comes { PlanAnswerOn (T.stands_for state) (input_over S.Source source.old source.new) (shelf_over L.Library library.old library.new) result }
     ensures still { IsStill (shelf_over L.Library library.old library.new) result }
     ensures kept { L.content library.new ≡ L.content library.old }
     ensures quiet { result ≢ Answer.SourceFailed → S.faults source.new ≡ S.faults source.old }
@@ -152,13 +152,13 @@ pub fn plan<D: Disk, L: Library, S: Source>(
     library: &mut L,
     source: &mut S,
 ) -> Answer
-    ensures comes { Plans (store_over D.Disk disk.old disk.new) (input_over S.Source source.old source.new)
+    ensures comes { PlanAnswer (store_over D.Disk disk.old disk.new) (input_over S.Source source.old source.new)
         (shelf_over L.Library library.old library.new) result }
     ensures quiet { IsQuiet (store_over D.Disk disk.old disk.new) (input_over S.Source source.old source.new) result }
     ensures still { IsStill (shelf_over L.Library library.old library.new) result }
     ensures kept { L.content library.new ≡ L.content library.old }
-    ensures moments { Leaves D.moment D.left_since disk.old disk.new (D.may_leave disk.old) }
-    ensures keeps { Keeps order.Plan (D.may_leave disk.new) (D.seen disk.new) result }
+    ensures moments { HasLeft D.moment D.left_since disk.old disk.new (D.may_leave disk.old) }
+    ensures keeps { IsDurableIfDone order.Plan (D.may_leave disk.new) (D.seen disk.new) result }
     ensures seen { D.seen disk.new ≡ D.seen disk.old }
     ensures disk_later { D.faults disk.old ≤ D.faults disk.new }
     ensures library_later { L.faults library.old ≤ L.faults library.new }

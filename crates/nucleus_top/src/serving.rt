@@ -4,7 +4,7 @@ ghost use Rattle.checkpoint_log.specs.Slots.{slots_files};
 ghost use Rattle.nucleus_top.specs.Answers.{store_over};
 ghost use Rattle.nucleus_top.specs.Drives.{MayNotOpen};
 ghost use Rattle.nucleus_top.specs.Serving.{IsServed};
-ghost use Rattle.session_serving.specs.Causes.{IsCaused, watched};
+ghost use Rattle.session_serving.specs.Causes.{IsCaused, observation};
 ghost use Rattle.nucleus_top.specs.Objects.{IsRefusedOver};
 ghost use Rattle.session_serving.specs.Parts.{outside};
 
@@ -42,8 +42,8 @@ pub(crate) fn serve<D: Disk, L: Library, I: Inbox, K: Sink, R: Runner>(
     ensures none { R.living runner.new ≡ [] }
     ensures kept { L.content library.new ≡ L.content library.old }
     ensures caused { IsCaused D.is_modelled slots_files result
-        (watched D.Disk K.Sink L.Library I.Inbox disk.old sink.old library.old inbox.old)
-        (watched D.Disk K.Sink L.Library I.Inbox disk.new sink.new library.new inbox.new) }
+        (observation D.Disk K.Sink L.Library I.Inbox disk.old sink.old library.old inbox.old)
+        (observation D.Disk K.Sink L.Library I.Inbox disk.new sink.new library.new inbox.new) }
 {
     match open_swept(alloc, disk) {
         Ok(state) => {

@@ -1,13 +1,13 @@
 // The command `status`.
 ghost use Rattle.std.specs.Prelude.{◌≡◌, ◌≢◌, ◌≤◌, IfOk};
 ghost use Rattle.std.specs.Option.{IsSome};
-ghost use Rattle.disk_model.specs.Disk.{Leaves};
+ghost use Rattle.disk_model.specs.Disk.{HasLeft};
 ghost use Rattle.command_words.specs.declared.order.Order.TheVariants as order;
 ghost use Rattle.deploy_state.specs.Loading.{IsReady};
 ghost use Rattle.device.specs.Devices.{device_view, IsRegularDevice};
 ghost use Rattle.nucleus_top.specs.Answers.{store_over};
-ghost use Rattle.nucleus_top.specs.Shows.{Shows, ShowsDevice, shown};
-ghost use Rattle.nucleus_top.specs.Leaving.{Keeps};
+ghost use Rattle.nucleus_top.specs.Shows.{StatusAnswer, ShowsDevice, shown};
+ghost use Rattle.nucleus_top.specs.Leaving.{IsDurableIfDone};
 
 use crate::answer::Answer;
 use crate::opening::{HasDevice, open, refused};
@@ -43,9 +43,9 @@ fn show<S: HasDevice + Drop>(alloc: Global, json: bool, state: S) -> Answer
 
 /// Shows the device for which the journal stands. It writes nothing to the disk.
 pub fn status<D: Disk>(alloc: Global, json: bool, disk: &mut D) -> Answer
-    ensures comes { Shows json (store_over D.Disk disk.old disk.new) result }
-    ensures moments { Leaves D.moment D.left_since disk.old disk.new (D.may_leave disk.old) }
-    ensures keeps { Keeps (order.Status json) (D.may_leave disk.new) (D.seen disk.new) result }
+    ensures comes { StatusAnswer json (store_over D.Disk disk.old disk.new) result }
+    ensures moments { HasLeft D.moment D.left_since disk.old disk.new (D.may_leave disk.old) }
+    ensures keeps { IsDurableIfDone (order.Status json) (D.may_leave disk.new) (D.seen disk.new) result }
     ensures seen { D.seen disk.new ≡ D.seen disk.old }
     ensures quiet { result ≢ Answer.DiskFailed → D.faults disk.new ≡ D.faults disk.old }
     ensures later { D.faults disk.old ≤ D.faults disk.new }

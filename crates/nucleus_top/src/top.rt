@@ -1,22 +1,22 @@
 ghost use Rattle.std.specs.Prelude.{◌≡◌, ◌⊎◌, ◌≤◌, [], ℕ, List, map, string_bytes, IsTrue};
-ghost use Rattle.disk_model.specs.Disk.{Leaves};
+ghost use Rattle.disk_model.specs.Disk.{HasLeft};
 ghost use Rattle.nuc_base.specs.declared.status.Status.TheVariants as status;
 ghost use Rattle.admission.specs.declared.ask.Ask.{Ask};
 ghost use Rattle.command_words.specs.Words.{IsOrder};
 ghost use Rattle.command_words.specs.declared.order.Order.{Order};
 ghost use Rattle.command_words.specs.declared.order.Order.TheVariants as order;
-ghost use Rattle.session.specs.Calls.{Stays};
+ghost use Rattle.session.specs.Calls.{HasNotFallen};
 ghost use Rattle.edges.specs.Reading.{ReadsUpTo};
-ghost use Rattle.nucleus_top.specs.Drives.{AsksTo, AsksToServe, Deploys, DeploysOver, DriveParts, Drives, DrivesOne, Serves};
-ghost use Rattle.nucleus_top.specs.Drives.{PendingParts, RefusedParts, TurnsAway};
+ghost use Rattle.nucleus_top.specs.Drives.{AsksTo, AsksToServe, AsksToDeploy, AsksWithLibrary, DriveParts, AsksToDrive, AsksToDriveOne, AsksToServeTurns};
+ghost use Rattle.nucleus_top.specs.Drives.{PendingParts, RefusedParts, MayNotDeploy};
 ghost use Rattle.nucleus_top.specs.Drives.{MayNotOpen};
-ghost use Rattle.nucleus_top.specs.Words.{Asks};
+ghost use Rattle.nucleus_top.specs.Words.{AsksOrder};
 ghost use Rattle.nucleus_top.specs.Answers.{store_over, input_over, shelf_over, printed_over};
 ghost use Rattle.nucleus_top.specs.Leaving.{IsDurable, MayLeave, files_of};
 ghost use Rattle.nucleus_top.specs.Parts.{Parts};
 ghost use Rattle.nucleus_top.specs.Serving.{IsServed};
 ghost use Rattle.checkpoint_log.specs.Slots.{slots_files};
-ghost use Rattle.session_serving.specs.Causes.{IsCaused, watched};
+ghost use Rattle.session_serving.specs.Causes.{IsCaused, observation};
 ghost use Rattle.nucleus_top.specs.Objects.{IsDeployedFrom, IsRefusedOver, IsResumedOver};
 ghost use Rattle.session_serving.specs.Parts.{outside};
 
@@ -73,35 +73,35 @@ pub fn nucleus<D: Disk, L: Library, S: Source, I: Inbox, K: Sink, R: Runner>(
 ) -> Status
     // No child lives yet.
     requires none { R.living runner.old ≡ [] }
-    ensures parts { (Drives (map string_bytes words.now.items) → ⊥) →
+    ensures parts { (AsksToDrive (map string_bytes words.now.items) → ⊥) →
         Parts (map string_bytes words.now.items) (store_over D.Disk disk.old disk.new)
         (input_over S.Source source.old source.new) (shelf_over L.Library library.old library.new)
         (printed_over K.Sink sink.old sink.new) result }
     // The commands that deploy what the source has, `plan` and `why` alone read from it. They and `serve` ask the library, but for a
     // change of a configuration. `serve` alone asks the inbox.
-    ensures unread { (Deploys (map string_bytes words.now.items) → ⊥) → (Asks (map string_bytes words.now.items) order.Plan → ⊥)
-        → (Asks (map string_bytes words.now.items) order.Why → ⊥) → source.new ≡ source.old }
-    ensures unasked { (DeploysOver (map string_bytes words.now.items) → ⊥) → (Asks (map string_bytes words.now.items) order.Plan → ⊥)
-        → (Asks (map string_bytes words.now.items) order.Why → ⊥) → library.new ≡ library.old }
+    ensures unread { (AsksToDeploy (map string_bytes words.now.items) → ⊥) → (AsksOrder (map string_bytes words.now.items) order.Plan → ⊥)
+        → (AsksOrder (map string_bytes words.now.items) order.Why → ⊥) → source.new ≡ source.old }
+    ensures unasked { (AsksWithLibrary (map string_bytes words.now.items) → ⊥) → (AsksOrder (map string_bytes words.now.items) order.Plan → ⊥)
+        → (AsksOrder (map string_bytes words.now.items) order.Why → ⊥) → library.new ≡ library.old }
     ensures uninboxed { (AsksToServe (map string_bytes words.now.items) → ⊥) → inbox.new ≡ inbox.old }
     // `workload` does not touch the disk.
-    ensures alone { (seed : ℕ) → Asks (map string_bytes words.now.items) (order.Workload seed) → disk.new ≡ disk.old }
+    ensures alone { (seed : ℕ) → AsksOrder (map string_bytes words.now.items) (order.Workload seed) → disk.new ≡ disk.old }
     ensures library_kept { L.content library.new ≡ L.content library.old }
     // Whenever a crash comes during the call, it leaves an image that the start allowed, or what the command may make of one.
-    ensures moments { (Drives (map string_bytes words.now.items) → ⊥) → Leaves D.moment D.left_since disk.old disk.new
+    ensures moments { (AsksToDrive (map string_bytes words.now.items) → ⊥) → HasLeft D.moment D.left_since disk.old disk.new
         (MayLeave (map string_bytes words.now.items) (D.may_leave disk.old)) }
     // Once the lines of finished work are printed, a crash does not undo it.
-    ensures durable { (order : Order) → Asks (map string_bytes words.now.items) order → result ≡ status.Done →
+    ensures durable { (order : Order) → AsksOrder (map string_bytes words.now.items) order → result ≡ status.Done →
         IsDurable order (D.may_leave disk.new) (D.seen disk.new) }
-    ensures others { (order : Order) → Asks (map string_bytes words.now.items) order → IsTrue D.is_modelled →
+    ensures others { (order : Order) → AsksOrder (map string_bytes words.now.items) order → IsTrue D.is_modelled →
         (name : List ℕ) → ¬ (files_of order name) → D.seen disk.new name ≡ D.seen disk.old name }
-    // To deploy: turned away before anything begins, with an answer that has its cause; or the document to which the bytes of the
+    // To deploy: refused before anything begins, with an answer that has its cause; or the document to which the bytes of the
     // source come is taken in by the checks in their order or not, and its deployment goes on from the start of the call. Whenever
     // a crash comes during it, it leaves an image that the start allowed, or one whose journal stands for what the call's
-    // records, up to one of them, make of the device: with none of them where the call is turned away.
+    // records, up to one of them, make of the device: with none of them where the call is refused.
     ensures deploys { (what : Ask) → AsksTo (map string_bytes words.now.items) what →
         (IsRefusedOver D.Disk K.Sink disk.old disk.new sink.old sink.new result
-        (λ store answer. TurnsAway store (input_over S.Source source.old source.new) answer) × (runner.new ≡ runner.old))
+        (λ store answer. MayNotDeploy store (input_over S.Source source.old source.new) answer) × (runner.new ≡ runner.old))
         ⊎ IsDeployedFrom D.Disk K.Sink R.Runner disk.old disk.new sink.old sink.new runner.old runner.new result what
         (input_over S.Source source.old source.new)
         (shelf_over L.Library library.old library.new) }
@@ -110,7 +110,7 @@ pub fn nucleus<D: Disk, L: Library, S: Source, I: Inbox, K: Sink, R: Runner>(
         (IsRefusedOver D.Disk K.Sink disk.old disk.new sink.old sink.new result (λ store answer. MayNotOpen store answer) × (runner.new ≡ runner.old))
         ⊎ IsResumedOver D.Disk K.Sink R.Runner disk.old disk.new sink.old sink.new runner.old runner.new result }
     // `serve`: so it is with the pending deployment, where there is one, and then with the set and the documents of the inbox.
-    ensures serves { (turns : ℕ) → Serves (map string_bytes words.now.items) turns →
+    ensures serves { (turns : ℕ) → AsksToServeTurns (map string_bytes words.now.items) turns →
         (IsRefusedOver D.Disk K.Sink disk.old disk.new sink.old sink.new result (λ store answer. MayNotOpen store answer)
         × (runner.new ≡ runner.old) × (library.new ≡ library.old) × (inbox.new ≡ inbox.old))
         ⊎ IsServed D.Disk (L.content library.old)
@@ -118,30 +118,30 @@ pub fn nucleus<D: Disk, L: Library, S: Source, I: Inbox, K: Sink, R: Runner>(
         (outside D.Disk K.Sink R.Runner L.Library I.Inbox disk.new sink.new runner.new library.new inbox.new)
         result (store_over D.Disk disk.old disk.new) turns }
     // Of all: when the refusals of a journal that gives no device come, and of those that deploy that of a pending deployment.
-    ensures refused { Drives (map string_bytes words.now.items) → RefusedParts (store_over D.Disk disk.old disk.new)
+    ensures refused { AsksToDrive (map string_bytes words.now.items) → RefusedParts (store_over D.Disk disk.old disk.new)
         (printed_over K.Sink sink.old sink.new) result }
-    ensures pending { Deploys (map string_bytes words.now.items) →
+    ensures pending { AsksToDeploy (map string_bytes words.now.items) →
         PendingParts (store_over D.Disk disk.old disk.new) (input_over S.Source source.old source.new)
         (printed_over K.Sink sink.old sink.new) result }
     // When 5, 6 and 7 come, and which files change.
     ensures causes { AsksToServe (map string_bytes words.now.items) → IsCaused D.is_modelled slots_files result
-        (watched D.Disk K.Sink L.Library I.Inbox disk.old sink.old library.old inbox.old)
-        (watched D.Disk K.Sink L.Library I.Inbox disk.new sink.new library.new inbox.new) }
-    ensures driven { DrivesOne (map string_bytes words.now.items) → DriveParts (store_over D.Disk disk.old disk.new)
+        (observation D.Disk K.Sink L.Library I.Inbox disk.old sink.old library.old inbox.old)
+        (observation D.Disk K.Sink L.Library I.Inbox disk.new sink.new library.new inbox.new) }
+    ensures driven { AsksToDriveOne (map string_bytes words.now.items) → DriveParts (store_over D.Disk disk.old disk.new)
         (input_over S.Source source.old source.new) (shelf_over L.Library library.old library.new)
         (printed_over K.Sink sink.old sink.new) result }
     // No other command runs a child, and none lives at the end.
-    ensures still { (Drives (map string_bytes words.now.items) → ⊥) → runner.new ≡ runner.old }
+    ensures still { (AsksToDrive (map string_bytes words.now.items) → ⊥) → runner.new ≡ runner.old }
     ensures none { R.living runner.new ≡ [] }
     // No count falls: those of the disk and the sink up to their type's end where a deployment is driven.
-    ensures disk_later { Stays (D.faults disk.old) (D.faults disk.new) }
-    ensures disk_grows { (Drives (map string_bytes words.now.items) → ⊥) → D.faults disk.old ≤ D.faults disk.new }
+    ensures disk_later { HasNotFallen (D.faults disk.old) (D.faults disk.new) }
+    ensures disk_grows { (AsksToDrive (map string_bytes words.now.items) → ⊥) → D.faults disk.old ≤ D.faults disk.new }
     ensures library_later { L.faults library.old ≤ L.faults library.new }
     // At most one byte past the limit of a document is read, whatever is answered.
     ensures read { ReadsUpTo 524289 (S.left source.old) (S.left source.new) }
     ensures source_later { S.faults source.old ≤ S.faults source.new }
-    ensures sink_later { Stays (K.faults sink.old) (K.faults sink.new) }
-    ensures sink_grows { (Drives (map string_bytes words.now.items) → ⊥) → K.faults sink.old ≤ K.faults sink.new }
+    ensures sink_later { HasNotFallen (K.faults sink.old) (K.faults sink.new) }
+    ensures sink_grows { (AsksToDrive (map string_bytes words.now.items) → ⊥) → K.faults sink.old ≤ K.faults sink.new }
 {
     words_ask_one_thing();
     match read_asked(alloc, words) {

@@ -1,15 +1,15 @@
 // The command `why`.
 ghost use Rattle.std.specs.Prelude.{◌≡◌, ◌≢◌, ◌≤◌, None};
 ghost use Rattle.std.specs.Option.{IsSome};
-ghost use Rattle.disk_model.specs.Disk.{Leaves};
+ghost use Rattle.disk_model.specs.Disk.{HasLeft};
 ghost use Rattle.command_words.specs.declared.order.Order.TheVariants as order;
 ghost use Rattle.deploy_state.specs.Loading.{IsReady};
 ghost use Rattle.device.specs.Devices.{device_view};
 ghost use Rattle.device.specs.Sound.{IsSound};
 ghost use Rattle.edges.specs.Reading.{ReadsUpTo};
 ghost use Rattle.nucleus_top.specs.Answers.{store_over, input_over, shelf_over, IsQuiet, IsStill};
-ghost use Rattle.nucleus_top.specs.Leaving.{Keeps};
-ghost use Rattle.nucleus_top.specs.Why.{TellsAsked, TellsWhy, WhysOn, Whys};
+ghost use Rattle.nucleus_top.specs.Leaving.{IsDurableIfDone};
+ghost use Rattle.nucleus_top.specs.Why.{TellsAsked, TellsWhy, WhyAnswerOn, WhyAnswer};
 
 use crate::answer::Answer;
 use crate::explanation::Explanation;
@@ -57,7 +57,7 @@ fn why_idle<L: Library, S: Source>(
     requires origin { IsSome device.now.origin }
     requires idle { device.now.pending ≡ None }
     requires sound { IsSound (device_view device.now) }
-    ensures comes { WhysOn (device_view device.now) (input_over S.Source source.old source.new) (shelf_over L.Library library.old library.new)
+    ensures comes { WhyAnswerOn (device_view device.now) (input_over S.Source source.old source.new) (shelf_over L.Library library.old library.new)
         result }
     ensures still { IsStill (shelf_over L.Library library.old library.new) result }
     ensures kept { L.content library.new ≡ L.content library.old }
@@ -84,7 +84,7 @@ fn why_on<L: Library, S: Source>(
 ) -> Answer
     requires origin { IsSome device.now.origin }
     requires sound { IsSound (device_view device.now) }
-    ensures comes { WhysOn (device_view device.now) (input_over S.Source source.old source.new) (shelf_over L.Library library.old library.new)
+    ensures comes { WhyAnswerOn (device_view device.now) (input_over S.Source source.old source.new) (shelf_over L.Library library.old library.new)
         result }
     ensures still { IsStill (shelf_over L.Library library.old library.new) result }
     ensures kept { L.content library.new ≡ L.content library.old }
@@ -107,7 +107,7 @@ fn why_stored<T: HasDevice + Drop, L: Library, S: Source>(
     source: &mut S,
 ) -> Answer
     requires ready { IsReady (T.stands_for state) }
-    ensures comes { WhysOn (T.stands_for state) (input_over S.Source source.old source.new) (shelf_over L.Library library.old library.new)
+    ensures comes { WhyAnswerOn (T.stands_for state) (input_over S.Source source.old source.new) (shelf_over L.Library library.old library.new)
         result }
     ensures still { IsStill (shelf_over L.Library library.old library.new) result }
     ensures kept { L.content library.new ≡ L.content library.old }
@@ -129,13 +129,13 @@ pub fn why<D: Disk, L: Library, S: Source>(
     library: &mut L,
     source: &mut S,
 ) -> Answer
-    ensures comes { Whys (store_over D.Disk disk.old disk.new) (input_over S.Source source.old source.new)
+    ensures comes { WhyAnswer (store_over D.Disk disk.old disk.new) (input_over S.Source source.old source.new)
         (shelf_over L.Library library.old library.new) result }
     ensures quiet { IsQuiet (store_over D.Disk disk.old disk.new) (input_over S.Source source.old source.new) result }
     ensures still { IsStill (shelf_over L.Library library.old library.new) result }
     ensures kept { L.content library.new ≡ L.content library.old }
-    ensures moments { Leaves D.moment D.left_since disk.old disk.new (D.may_leave disk.old) }
-    ensures keeps { Keeps order.Why (D.may_leave disk.new) (D.seen disk.new) result }
+    ensures moments { HasLeft D.moment D.left_since disk.old disk.new (D.may_leave disk.old) }
+    ensures keeps { IsDurableIfDone order.Why (D.may_leave disk.new) (D.seen disk.new) result }
     ensures seen { D.seen disk.new ≡ D.seen disk.old }
     ensures disk_later { D.faults disk.old ≤ D.faults disk.new }
     ensures library_later { L.faults library.old ≤ L.faults library.new }

@@ -7,7 +7,7 @@ ghost use Rattle.workload.specs.Answers.{is_want};
 ghost use Rattle.workload.specs.Runner.{living_of};
 ghost use Rattle.workload.specs.Tallies.{tally_line, tally_of};
 ghost use Rattle.nucleus_top.specs.Begun.{begun_device};
-ghost use Rattle.nucleus_top.specs.Workloads.{GoesThrough, GoThrough, IsBegunAs, IsTally, TellsTally, workload_origin};
+ghost use Rattle.nucleus_top.specs.Workloads.{DeviceAfterOne, DeviceAfterAll, IsBegunAs, IsTally, TellsTally, workload_origin};
 
 use crate::answer::Answer;
 use crate::driving::deploy;
@@ -70,7 +70,7 @@ fn deploy_one(
     ensures none { living_of runner.new ≡ [] }
     ensures kept { library_content library.new ≡ library_content library.old }
     ensures through { is_want result ≡ false → (d : Stored) → IsBegunAs (seen_by disk.old) d
-        → (e : Stored) × IsBegunAs (seen_by disk.new) e × GoesThrough (library_content library.old) document d e }
+        → (e : Stored) × IsBegunAs (seen_by disk.new) e × DeviceAfterOne (library_content library.old) document d e }
 {
     let mut source = MemorySource::new(document, List::empty(alloc));
     let mut lines = MemorySink::new(alloc, List::empty(alloc));
@@ -95,7 +95,7 @@ fn deploy_all(
 ) -> Result<(), NoMemory>
     requires none { living_of runner.old ≡ [] }
     ensures { OnOk result ((d : Stored) → IsBegunAs (seen_by disk.old) d
-        → (e : Stored) × IsBegunAs (seen_by disk.new) e × GoThrough (library_content library.old) documents d e) }
+        → (e : Stored) × IsBegunAs (seen_by disk.new) e × DeviceAfterAll (library_content library.old) documents d e) }
 {
     for document in documents.into_vec() {
         if wants_memory(deploy_one(alloc, document, disk, library, runner)) {

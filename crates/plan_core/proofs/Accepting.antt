@@ -23,12 +23,12 @@ use Rattle.device.specs.Grouped.{has_group, revision_of}
 use Rattle.device.specs.Lawful.{HasRoomFor, IsNotOlder, MayAccept}
 use Rattle.device.specs.Limits.{most_elements, most_groups}
 use Rattle.device.specs.Plans as device_boots
-use Rattle.device.specs.Plans.{AreItems, AreRequirements, HasRecipe, HasConfig, IsPlan, Rise, requirement_name}
+use Rattle.device.specs.Plans.{AreItems, AreRequirements, HasRecipe, HasConfig, IsPlan, AreRising, requirement_name}
 use Rattle.deployment_doc.specs.Sound.{AreSound, root_name}
 use Rattle.deployment_doc.specs.declared.document.Document.{Document}
 use Rattle.deployment_doc.specs.declared.document.Root.{Root}
 use Rattle.plan_core.specs.Boots.{AreBoots}
-use Rattle.device.specs.Filled.{FillsItem}
+use Rattle.device.specs.Filled.{ItemFilled}
 use Rattle.plan_core.specs.Laws.{FilledIsAllowed}
 use Rattle.plan_core.specs.Plans.{config_lines, size_lines}
 use Rattle.plan_core.specs.Ready.{MayPlan}
@@ -49,7 +49,7 @@ requirements_are : (roots : List Root) → AreSound roots → AreRequirements (m
 requirements_are roots sound =
     let long = length-map roots root_requirement in
     let few = sound.few in
-    record { few = omega (arith, long, few); rise = subst Rise (sym (names_of roots)) sound.rising }
+    record { few = omega (arith, long, few); rise = subst AreRising (sym (names_of roots)) sound.rising }
 
 -- ---- items
 
@@ -73,7 +73,7 @@ module _ (one : IsOneRecipe) (reads_sound : ReadsSound) (object : ConfigIsObject
   plan_is : (set : List ℕ) → IsPreferred (members cs) (wanted_of d.groups document) set → length (chosen cs set) ≤ most_elements
       → AllHold (each config_lines (map bare (items_of d.set document.roots (chosen cs set))))
       → (requirements : List Requirement) → requirements ≡ map root_requirement document.roots
-      → (items : List Item) → AllZip FillsItem (items_of d.set document.roots (chosen cs set)) items
+      → (items : List Item) → AllZip ItemFilled (items_of d.set document.roots (chosen cs set)) items
       → (boots : List (List ℕ)) (shown : List Item) → AreBoots o d.set (chosen cs set) shown boots
       → (plan : Plan) → plan.requirements ≡ requirements → plan.items ≡ items → plan.boots ≡ boots → IsPlan o.platform plan
   plan_is set preferred few short requirements wants items filled boots shown picked plan same_requirements same_items same_boots =
@@ -107,7 +107,7 @@ filled one reads_sound object o d cs document draft plan has rising may planned 
     let count = sizes.0 in
     let whole =
     plan_is one reads_sound object o d cs document rising may set planned.plan.is_choice.1 (omega (arith, long, count)) sizes.1
-    draft.requirements planned.plan.head.requirements plan.items (subst (λ (l : List DraftItem). AllZip FillsItem l plan.items) items fills.items)
+    draft.requirements planned.plan.head.requirements plan.items (subst (λ (l : List DraftItem). AllZip ItemFilled l plan.items) items fills.items)
     draft.boots (map bare draft.items) (subst (λ (l : List Candidate). AreBoots o d.set l (map bare draft.items) draft.boots) is planned.plan.boots)
     plan fills.requirements refl fills.boots in
     let id : plan.id ≡ document.id = fills.id ∙ planned.plan.head.id in

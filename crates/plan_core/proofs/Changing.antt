@@ -10,7 +10,7 @@ use Rattle.std.proofs.lemmas.Option.{slice_get_within, slice_get-map, slice_get_
 use Rattle.nuc_base.proofs.Lists.{in_here}
 use Rattle.library_core.specs.Gathered.{KeepBytes}
 use Rattle.recipe_reader.specs.Candidates.{IsReadFor}
-use Rattle.recipe_reader.specs.OneRecipe.{Reads}
+use Rattle.recipe_reader.specs.OneRecipe.{IsRecipeFor}
 use Rattle.recipe_reader.specs.declared.candidate.Candidate.{Candidate}
 use Rattle.recipe_reader.specs.declared.recipe.StepDef.{StepDef}
 use Rattle.records.specs.Stored.{Item, item_view}
@@ -92,9 +92,9 @@ changed_script origin set items at before version i b there same tells = (
 -- the set's item in that version has the candidate's recipe
 pub kept_reads : (origin : Origin) (set : List Item) (before : ℕ) (c : Candidate) (i : Item) → slice_get set before ≡ Some i → i.name ≡ c.recipe.name →
     i.version ≡ c.recipe.version
-    → KeepBytes set (c ∷ []) → IsReadFor origin.platform c → Reads i.recipe origin.platform c.recipe
+    → KeepBytes set (c ∷ []) → IsReadFor origin.platform c → IsRecipeFor i.recipe origin.platform c.recipe
 kept_reads origin set before c i there name version kept read =
-    subst (λ (bytes : List ℕ). Reads bytes origin.platform c.recipe) (kept i c (element set before i there) (in_here c []) (sym name) (sym version)) read
+    subst (λ (bytes : List ℕ). IsRecipeFor bytes origin.platform c.recipe) (kept i c (element set before i there) (in_here c []) (sym name) (sym version)) read
 
 -- ---- beside one another
 
@@ -109,10 +109,10 @@ beside (x ∷ cs) (i ∷ items) of (suc at) c there = beside cs items of.1 at c 
 
 pub reads_beside : (origin : Origin) (cs : List Candidate) (items : List Item) (at : ℕ) (c : Candidate) → AreOf cs items → slice_get cs at ≡ Some c →
     IsReadFor origin.platform c
-    → (i : Item) × (slice_get items at ≡ Some i) × Reads i.recipe origin.platform c.recipe
+    → (i : Item) × (slice_get items at ≡ Some i) × IsRecipeFor i.recipe origin.platform c.recipe
 reads_beside origin cs items at c of there read =
     let b = beside cs items of at c there in
-    (b.0, b.1, subst (λ (bytes : List ℕ). Reads bytes origin.platform c.recipe) (sym b.2.2) read)
+    (b.0, b.1, subst (λ (bytes : List ℕ). IsRecipeFor bytes origin.platform c.recipe) (sym b.2.2) read)
 
 pub due : (origin : Origin) (set : List Item) (cs : List Candidate) (items : List Item) (at : ℕ) (c : Candidate) (step : StepDef) (b : Bool) →
     slice_get cs at ≡ Some c

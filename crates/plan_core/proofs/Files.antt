@@ -19,7 +19,7 @@ use Rattle.recipe_reader.specs.Artifacts.{IsArtifact, AreArtifacts, artifact_lin
 use Rattle.recipe_reader.specs.Lifecycles.{lifecycle_lines}
 use Rattle.recipe_reader.specs.Dependencies.{dependencies_lines}
 use Rattle.recipe_reader.specs.Platforms.{is_text, manifests_lines}
-use Rattle.recipe_reader.specs.OneRecipe.{Reads}
+use Rattle.recipe_reader.specs.OneRecipe.{IsRecipeFor}
 use Rattle.recipe_reader.specs.Recipes.{recipe_lines, head_lines, config_lines, chosen_lines, part_lines, manifest_of, inner}
 use Rattle.recipe_reader.specs.Spelled.{spelled}
 use Rattle.recipe_reader.specs.declared.recipe.Recipe.{Recipe}
@@ -112,7 +112,7 @@ chosen_hold p d h =
     (hold_last (head_lines d ++ optional (spelled key.ComponentConfiguration) d config_lines ++ optional (spelled key.ComponentDependencies) d
     dependencies_lines) (part_lines p d) h)
 
-pub files_differ : (p : Platform) (bytes : List ℕ) (r : Recipe) → Reads bytes p r → FilesDiffer r.artifacts
+pub files_differ : (p : Platform) (bytes : List ℕ) (r : Recipe) → IsRecipeFor bytes p r → FilesDiffer r.artifacts
 files_differ p bytes r reads = chosen_differ (manifest_of p reads.0) r.artifacts (chosen_hold p reads.0 reads.2) reads.3.artifacts
 
 -- ---- the digest that is kept of a file is the recipe's where that gives one

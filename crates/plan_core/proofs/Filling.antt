@@ -19,7 +19,7 @@ use Rattle.config_ops.specs.Laws as config
 use Rattle.config_ops.specs.NewConfig.{change_of}
 use Rattle.config_ops.specs.declared.update.Update.{Update}
 use Rattle.recipe_reader.specs.Candidates.{IsReadFor}
-use Rattle.recipe_reader.specs.OneRecipe.{Reads, IsOneRecipe}
+use Rattle.recipe_reader.specs.OneRecipe.{IsRecipeFor, IsOneRecipe}
 use Rattle.recipe_reader.specs.Sound.{ReadsSound}
 use Rattle.recipe_reader.specs.declared.candidate.Candidate.{Candidate}
 use Rattle.records.specs.Stored.{Item}
@@ -28,7 +28,7 @@ use Rattle.device.specs.Limits.{most_config}
 use Rattle.device.specs.Plans.{AreItems, HasRecipe, HasConfig, IsConfig, IsHeldFor}
 use Rattle.deployment_doc.specs.Sound.{AreSound, UpdatesByObject, MergesObject}
 use Rattle.deployment_doc.specs.declared.document.Root.{Root}
-use Rattle.device.specs.Filled.{FillsItem}
+use Rattle.device.specs.Filled.{ItemFilled}
 use Rattle.plan_core.specs.Plans.{config_lines}
 use Rattle.plan_core.specs.Set.{item_named, item_in, root_named, change_in, config_of, item_of, items_of, bare}
 use Rattle.plan_core.proofs.Files.{KeepsFiles, files_differ, held_all}
@@ -36,7 +36,7 @@ use Rattle.plan_core.proofs.Found.{found}
 
 -- an item of this candidate
 pub record IsMade (p : Platform) (c : Candidate) (i : Item) : Type 0 where
-  pub reads : Reads i.recipe p c.recipe
+  pub reads : IsRecipeFor i.recipe p c.recipe
   pub name : c.recipe.name ≡ i.name
   pub version : c.recipe.version ≡ i.version
   pub files : AllZip IsHeldFor c.recipe.artifacts i.artifacts
@@ -91,12 +91,12 @@ module _ (one : IsOneRecipe) (reads_sound : ReadsSound) (object : config.ConfigI
       let bytes = fits.kept i c f.0 (in_here c []) ((bytes_eq-Decides c.recipe.name i.name).0 both.0) ((bytes_eq-Decides c.recipe.version i.version).0 both.1)
       in
       let has = All-contains (HasRecipe p) set i (All-from_recursion (HasRecipe p) set items.recipes) f.0 in
-      let same = one i.recipe p has.0 c.recipe has.1.reads (subst (λ (b : List ℕ). Reads b p c.recipe) bytes fits.read) in
+      let same = one i.recipe p has.0 c.recipe has.1.reads (subst (λ (b : List ℕ). IsRecipeFor b p c.recipe) bytes fits.read) in
       subst (λ (parts : List Artifact). AllZip IsHeldFor parts i.artifacts) same.artifacts has.1.files
 
-  made_one : (c : Candidate) (i : Item) → Fits c → FillsItem (item_of set roots c) i → IsMade p c i
+  made_one : (c : Candidate) (i : Item) → Fits c → ItemFilled (item_of set roots c) i → IsMade p c i
   made_one c i fits fills = record {
-    reads = subst (λ (b : List ℕ). Reads b p c.recipe) (sym fills.recipe) fits.read;
+    reads = subst (λ (b : List ℕ). IsRecipeFor b p c.recipe) (sym fills.recipe) fits.read;
     name = sym fills.name;
     version = sym fills.version;
     files = held_all (item_in c.recipe.name c.recipe.version set) c.recipe.artifacts i.artifacts (files_differ p c.bytes c.recipe fits.read)
@@ -104,7 +104,7 @@ module _ (one : IsOneRecipe) (reads_sound : ReadsSound) (object : config.ConfigI
     is_config = subst IsConfig (sym fills.config) (record { is_object = config_object c fits; short = fits.short });
   }
 
-  all_made : (cs : List Candidate) (made : List Item) → AllByRecursion Fits cs → AllZip FillsItem (items_of set roots cs) made → AllZip (IsMade p) cs made
+  all_made : (cs : List Candidate) (made : List Item) → AllByRecursion Fits cs → AllZip ItemFilled (items_of set roots cs) made → AllZip (IsMade p) cs made
   all_made [] [] fits z = tt
   all_made [] (i ∷ made) fits z = absurd z
   all_made (c ∷ cs) [] fits z = absurd z
@@ -124,5 +124,5 @@ module _ (one : IsOneRecipe) (reads_sound : ReadsSound) (object : config.ConfigI
 
   pub items_made : (cs : List Candidate) (made : List Item) → All (IsReadFor p) cs → KeepBytes set cs →
       AllHold (each config_lines (map bare (items_of set roots cs)))
-      → AllZip FillsItem (items_of set roots cs) made → AllZip (IsMade p) cs made
+      → AllZip ItemFilled (items_of set roots cs) made → AllZip (IsMade p) cs made
   items_made cs made read kept short z = all_made cs made (all_fit cs read kept short) z

@@ -6,7 +6,7 @@ use Rattle.std.specs.List.{All, Contains, remove}
 use Rattle.std.proofs.lemmas.List.{drop_more, map-append}
 use Rattle.std.proofs.lemmas.List.Elements.{All-tail, All-head, All-push, All-contains, All-get_or}
 use Rattle.std.proofs.lemmas.Option.{slice_get_within, get_or_from_slice_get, slice_get_read}
-use Rattle.nuc_base.specs.Tables.{AllHold, IsFirst, Faults, each}
+use Rattle.nuc_base.specs.Tables.{AllHold, IsFirst, IsFaultBy, each}
 use Rattle.nuc_base.proofs.Lists.{in_map}
 use Rattle.nuc_base.proofs.Tables.{first_after, all_both, fault_along, fault_before}
 use Rattle.recipe_reader.specs.declared.candidate.Candidate.{Candidate}
@@ -49,8 +49,8 @@ checked_more all rest x c holds = record {
   holds = λ h. c.holds (all_both (config_lines x) (each config_lines rest) holds h);
 }
 
-pub checked_fault : (all rest : List Item) (x : Item) (f : PlanFault) → Checked all (x ∷ rest) → Faults fault.NoMemory (config_lines x) f →
-    Faults fault.NoMemory (each config_lines all) f
+pub checked_fault : (all rest : List Item) (x : Item) (f : PlanFault) → Checked all (x ∷ rest) → IsFaultBy fault.NoMemory (config_lines x) f →
+    IsFaultBy fault.NoMemory (each config_lines all) f
 checked_fault all rest x f c h = fault_along fault.NoMemory (each config_lines (x ∷ rest)) (each config_lines all) f c.faults
     (fault_before fault.NoMemory (config_lines x) (each config_lines rest) f h)
 
@@ -123,7 +123,7 @@ pub handed : {A F : Type 0} (P : A → Type 0) (Q : F → Type 0) (result : Resu
 handed P Q (Ok v) f h q = absurd h
 handed P Q (Err e) f h q = subst Q (sym h) q
 
--- ---- a list that is taken from its front
+-- ---- a list that is taken from its beginning
 
 pub first_removed : {X : Type 0} (xs : List X) (x : X) (ys : List X) → 0 < length xs → x ≡ get_or xs 0 x → ys ≡ remove xs 0 → xs ≡ x ∷ ys
 first_removed [] x ys some is left = absurd (omega (arith, some))

@@ -6,13 +6,13 @@ use Rattle.std.specs.Str.{bytes_eq}
 use Rattle.std.proofs.lemmas.Slice.Eq.{bytes_eq-Decides}
 use Rattle.std.proofs.lemmas.List.Elements.{Contains-append_cases, All-nil, All-cons}
 use Rattle.std.proofs.lemmas.Option.{slice_get_within, get_or_from_slice_get, slice_get-map}
-use Rattle.nuc_base.specs.Leads.{Leads, direct, through}
+use Rattle.nuc_base.specs.Leads.{HasPath, direct, through}
 use Rattle.nuc_base.proofs.Lists.{in_nil, in_one, in_here, in_there, in_map, all_from_in}
 use Rattle.dep_order.specs.declared.Need.{Need as Edge}
 use Rattle.dep_order.specs.declared.Edges.{Edges}
-use Rattle.dep_order.specs.Orders.{Needs as NeedsOf, AreNodes, IsAcyclic, IsOrderAfter, IsWholeOrder}
+use Rattle.dep_order.specs.Orders.{HasNeed as NeedsOf, AreNodes, IsAcyclic, IsOrderAfter, IsWholeOrder}
 use Rattle.recipe_reader.specs.Members.{Member, Need, need, member, members}
-use Rattle.recipe_reader.specs.Sets.{IsValid, Needs, needs_in, name_in}
+use Rattle.recipe_reader.specs.Sets.{IsValid, HasDependency, needs_in, name_in}
 use Rattle.recipe_reader.specs.declared.candidate.Candidate.{Candidate}
 use Rattle.recipe_reader.specs.declared.recipe.Dependency.{Dependency}
 use Rattle.plan_core.specs.Boots.{place_from, place_of, edge_to, edges_at, edges_from, edges_of}
@@ -93,8 +93,8 @@ are_nodes cs = all_from_in (λ (e : Edge). (e.from < length cs) × (e.to < lengt
 -- ---- no cycles
 
 -- steps of one relation are steps of another
-leads_by : {A B : Type 0} {R : A → A → Type 0} {S : B → B → Type 0} (f : A → B) → ((x y : A) → R x y → S (f x) (f y)) → {p q : A} → Leads R p q →
-    Leads S (f p) (f q)
+leads_by : {A B : Type 0} {R : A → A → Type 0} {S : B → B → Type 0} (f : A → B) → ((x y : A) → R x y → S (f x) (f y)) → {p q : A} → HasPath R p q →
+    HasPath S (f p) (f q)
 leads_by f step (direct {a = x} {b = y} r) = direct (step x y r)
 leads_by f step (through {a = x} {b = y} {c = z} r m) = through (step x y r) (leads_by f step m)
 
@@ -105,7 +105,7 @@ module _ (cs : List Candidate) (set : List ℕ) (below : All (λ p. p < length c
       let same = get_or_from_slice_get set a at.place 0 at.listed in
       (subst (λ p. slice_get cs p ≡ Some c) (sym same) at.there, subst (Contains set) (sym same) (element set a at.place at.listed))
 
-  needs_too : (a b : ℕ) → NeedsOf (edges_of (chosen cs set)) a b → Needs (members cs) set (get_or set a 0) (get_or set b 0)
+  needs_too : (a b : ℕ) → NeedsOf (edges_of (chosen cs set)) a b → HasDependency (members cs) set (get_or set a 0) (get_or set b 0)
   needs_too a b n =
       let i = edge_in (chosen cs set) 0 (chosen cs set) n.by n.is in
       let start = i.from in

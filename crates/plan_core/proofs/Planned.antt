@@ -5,7 +5,7 @@ use Rattle.std.specs.List.Sorted.{IsStrictlyIncreasing}
 use Rattle.std.proofs.lemmas.List.Elements.{All-get_or, All-weaker, All-contains}
 use Rattle.std.proofs.lemmas.Option.{slice_get_read}
 use Rattle.std.proofs.lemmas.List.{length-map}
-use Rattle.nuc_base.specs.Tables.{AllHold, Faults, each}
+use Rattle.nuc_base.specs.Tables.{AllHold, IsFaultBy, each}
 use Rattle.nuc_base.proofs.Lists.{all_from_in}
 use Rattle.recipe_reader.specs.Candidates.{IsReadFor}
 use Rattle.recipe_reader.specs.Members.{Need, member, members}
@@ -125,7 +125,7 @@ module _ (o : Origin) (d : Device) (cs : List Candidate) (document : Document) (
 
   -- the first configuration that is too long
   pub refused_config : (f : PlanFault) → IsFewChoice d cs document choice →
-      Faults fault.NoMemory (each config_lines (map bare (items_of d.set document.roots choice))) f
+      IsFaultBy fault.NoMemory (each config_lines (map bare (items_of d.set document.roots choice))) f
       → (f ≡ fault.NoMemory) ⊎ IsRefused d cs document f
   refused_config f chosen_few (inl memory) = inl memory
   refused_config f chosen_few (inr first) =

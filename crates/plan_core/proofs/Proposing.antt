@@ -18,7 +18,8 @@ use Rattle.deployment_doc.specs.declared.document.Document.{Document}
 use Rattle.deployment_doc.specs.declared.fault.DocFault.{DocFault}
 use Rattle.deployment_doc.specs.declared.fault.DocFault.TheVariants as doc
 use Rattle.plan_core.specs.Checks.{Check, Reading, Opening, Ageing, Gathering, Room, Planning}
-use Rattle.plan_core.specs.Checks.{Facts, facts, Stops, Comes, Opens, Proposes, ProposesRead, AreCandidatesOf, plan_checks, read_checks}
+use Rattle.plan_core.specs.Checks.{Facts, facts, RefusalOf, DraftOfChecks, DeviceChecks}
+use Rattle.plan_core.specs.Checks.{DraftOfDocument, ProposesRead, AreCandidatesOf, plan_checks, read_checks}
 use Rattle.plan_core.specs.Checks.{document_refusal, gather_refusal, plan_refusal}
 use Rattle.plan_core.specs.Plans.{IsRefused}
 use Rattle.plan_core.specs.Ready.{IsOpen, IsFresh}
@@ -33,20 +34,20 @@ no_draft = record { id = []; group = []; revision = 0; policy = policies.Rollbac
 pub no_document : Document
 no_document = record { id = []; group = []; revision = 0; policy = policies.Rollback; roots = [] }
 
-comes_err : (f : Facts) (checks : List Check) (a : Refusal) (result : Result code.Draft Refusal) → IsErrAnd result (λ e. e ≡ a) → Stops f checks a →
-    Comes f checks result
+comes_err : (f : Facts) (checks : List Check) (a : Refusal) (result : Result code.Draft Refusal) → IsErrAnd result (λ e. e ≡ a) → RefusalOf f checks a →
+    DraftOfChecks f checks result
 comes_err f checks a (Ok draft) h s = absurd h
-comes_err f checks a (Err e) h s = subst (Stops f checks) (sym h) s
+comes_err f checks a (Err e) h s = subst (RefusalOf f checks) (sym h) s
 
 module _ (d : Device) (o : Origin) (content : Option Content) (before after : ℕ) (document : Document) where
-  pub open_stops : (checks : List Check) (cs : List Candidate) (draft : Draft) (a : Refusal) → Opens d document (Err a) →
-      Stops (facts d o content before after document cs draft) (Opening ∷ Ageing ∷ checks) a
+  pub open_stops : (checks : List Check) (cs : List Candidate) (draft : Draft) (a : Refusal) → DeviceChecks d document (Err a) →
+      RefusalOf (facts d o content before after document cs draft) (Opening ∷ Ageing ∷ checks) a
   open_stops checks cs draft a (inl memory) = inl memory
   open_stops checks cs draft a (inr (inl repeated)) = inr (inl repeated)
   open_stops checks cs draft a (inr (inr stale)) = inr (inr (stale.0, inr (inl (stale.1, stale.2))))
 
-  pub not_open : (a : Refusal) (result : Result code.Draft Refusal) → IsErrAnd result (λ e. e ≡ a) → Opens d document (Err a) →
-      Proposes d o content before after document result
+  pub not_open : (a : Refusal) (result : Result code.Draft Refusal) → IsErrAnd result (λ e. e ≡ a) → DeviceChecks d document (Err a) →
+      DraftOfDocument d o content before after document result
   not_open a result h opens = (
     [],
     no_draft,
@@ -56,14 +57,14 @@ module _ (d : Device) (o : Origin) (content : Option Content) (before after : �
 
   pub gather_stops : (checks : List Check) (cs : List Candidate) (draft : Draft) (fault : CandidatesFault) → IsOpen d document → IsFresh d document
       → (fault ≡ gather.Library → Rose before after) → ((l : Content) → content ≡ Some l → Gathered l.recipes o d.set (Err fault))
-      → Stops (facts d o content before after document cs draft) (Opening ∷ Ageing ∷ Gathering ∷ checks) (gather_refusal fault)
+      → RefusalOf (facts d o content before after document cs draft) (Opening ∷ Ageing ∷ Gathering ∷ checks) (gather_refusal fault)
   gather_stops checks cs draft fault is_open fresh cause told =
       inr (inr (is_open, inr (inr (fresh, inr (inl (fault, record { cause = cause; told = told }, refl))))))
 
   pub not_gathered : (fault : CandidatesFault) (result : Result code.Draft Refusal) → IsErrAnd result (λ e. e ≡ gather_refusal fault) → IsOpen d document →
       IsFresh d document
       → (fault ≡ gather.Library → Rose before after) → ((l : Content) → content ≡ Some l → Gathered l.recipes o d.set (Err fault)) →
-      Proposes d o content before after document result
+      DraftOfDocument d o content before after document result
   not_gathered fault result h is_open fresh cause told = (
     [],
     no_draft,
@@ -73,7 +74,7 @@ module _ (d : Device) (o : Origin) (content : Option Content) (before after : �
 
   refused_stops : (cs : List Candidate) (draft : Draft) (f : PlanFault) → IsOpen d document → IsFresh d document →
       AreCandidatesOf (facts d o content before after document cs draft)
-      → (f ≡ plan.NoMemory) ⊎ IsRefused d cs document f → Stops (facts d o content before after document cs draft) plan_checks (plan_refusal f)
+      → (f ≡ plan.NoMemory) ⊎ IsRefused d cs document f → RefusalOf (facts d o content before after document cs draft) plan_checks (plan_refusal f)
   refused_stops cs draft f is_open fresh gathered (inl memory) = inl (ap plan_refusal memory)
   refused_stops cs draft f is_open fresh gathered (inr (inl first)) = inr (inr (is_open, inr (inr (fresh, inr (inr (gathered, inr (inl (f, first, refl))))))))
   refused_stops cs draft f is_open fresh gathered (inr (inr (inl none))) =
@@ -84,7 +85,7 @@ module _ (d : Device) (o : Origin) (content : Option Content) (before after : �
   pub not_planned : (cs : List Candidate) (f : PlanFault) (result : Result code.Draft Refusal) → IsErrAnd result (λ e. e ≡ plan_refusal f) →
       IsOpen d document → IsFresh d document
       → AreCandidatesOf (facts d o content before after document cs no_draft) → (f ≡ plan.NoMemory) ⊎ IsRefused d cs document f →
-      Proposes d o content before after document result
+      DraftOfDocument d o content before after document result
   not_planned cs f result h is_open fresh gathered refused = (
     cs,
     no_draft,
@@ -94,17 +95,18 @@ module _ (d : Device) (o : Origin) (content : Option Content) (before after : �
 
   -- behind a document that was read
   read_on : (bytes : List ℕ) (cs : List Candidate) (draft : Draft) (result : Result code.Draft Refusal) → ReadsDocument bytes (Ok document)
-      → Comes (facts d o content before after document cs draft) plan_checks result → Comes (facts d o content before after document cs draft)
+      → DraftOfChecks (facts d o content before after document cs draft) plan_checks result → DraftOfChecks (facts d o content before after document cs draft)
       (read_checks bytes) result
   read_on bytes cs draft (Ok made) reads comes = (comes.0, (reads, comes.1))
   read_on bytes cs draft (Err a) reads stops = inr (inr (reads, stops))
 
-  pub read_first : (bytes : List ℕ) (result : Result code.Draft Refusal) → ReadsDocument bytes (Ok document) → Proposes d o content before after document result
+  pub read_first : (bytes : List ℕ) (result : Result code.Draft Refusal) → ReadsDocument bytes (Ok document)
+      → DraftOfDocument d o content before after document result
       → ProposesRead d o content before after bytes result
   read_first bytes result reads p = (document, p.0, p.1, read_on bytes p.0 p.1 result reads p.2)
 
 pub unread_stops : (f : Facts) (bytes : List ℕ) (checks : List Check) (fault : DocFault) → (fault ≡ doc.NoMemory) ⊎ IsFault bytes fault →
-    Stops f (Reading bytes ∷ checks) (document_refusal fault)
+    RefusalOf f (Reading bytes ∷ checks) (document_refusal fault)
 unread_stops f bytes checks fault (inl memory) = inl (ap document_refusal memory)
 unread_stops f bytes checks fault (inr first) = inr (inl (fault, first, refl))
 

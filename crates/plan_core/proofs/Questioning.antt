@@ -15,9 +15,10 @@ use Rattle.deployment_doc.specs.Reads.{ReadsDocument, IsFault}
 use Rattle.deployment_doc.specs.declared.document.Document.{Document}
 use Rattle.deployment_doc.specs.declared.fault.DocFault.{DocFault}
 use Rattle.deployment_doc.specs.declared.fault.DocFault.TheVariants as doc
-use Rattle.plan_core.specs.Checks.{Facts, Check, Gathering, Room, facts, Stops, Opens, AreCandidatesOf, document_refusal, gather_refusal, plan_refusal}
+use Rattle.plan_core.specs.Checks.{Facts, Check, Gathering, Room, facts}
+use Rattle.plan_core.specs.Checks.{RefusalOf, DeviceChecks, AreCandidatesOf, document_refusal, gather_refusal, plan_refusal}
 use Rattle.plan_core.specs.Plans.{room_lines}
-use Rattle.plan_core.specs.Questions.{Asks, Questions, QuestionsRead, question_checks, question_read_checks}
+use Rattle.plan_core.specs.Questions.{QuestionOfChecks, QuestionOfDocument, QuestionsRead, question_checks, question_read_checks}
 use Rattle.plan_core.specs.Ready.{IsOpen, IsFresh}
 use Rattle.plan_core.specs.declared.fault.PlanFault.{PlanFault}
 use Rattle.plan_core.specs.declared.fault.Refusal.{Refusal}
@@ -25,14 +26,14 @@ use Rattle.plan_core.specs.declared.fault.Refusal.TheVariants as refusal
 use Rattle.plan_core.specs.declared.questions.Question.{Question}
 use Rattle.plan_core.proofs.Proposing.{no_draft, no_document, open_stops, gather_stops, unread_stops}
 
-asks_err : (f : Facts) (checks : List Check) (a : Refusal) (result : Result Question Refusal) → IsErrAnd result (λ e. e ≡ a) → Stops f checks a →
-    Asks f checks result
+asks_err : (f : Facts) (checks : List Check) (a : Refusal) (result : Result Question Refusal) → IsErrAnd result (λ e. e ≡ a) → RefusalOf f checks a →
+    QuestionOfChecks f checks result
 asks_err f checks a (Ok q) h s = absurd h
-asks_err f checks a (Err e) h s = subst (Stops f checks) (sym h) s
+asks_err f checks a (Err e) h s = subst (RefusalOf f checks) (sym h) s
 
 module _ (d : Device) (o : Origin) (content : Option Content) (before after : ℕ) (document : Document) where
-  pub not_open : (a : Refusal) (result : Result Question Refusal) → IsErrAnd result (λ e. e ≡ a) → Opens d document (Err a) →
-      Questions d o content before after document result
+  pub not_open : (a : Refusal) (result : Result Question Refusal) → IsErrAnd result (λ e. e ≡ a) → DeviceChecks d document (Err a) →
+      QuestionOfDocument d o content before after document result
   not_open a result h opens = (
     [],
     no_draft,
@@ -43,7 +44,7 @@ module _ (d : Device) (o : Origin) (content : Option Content) (before after : �
   pub not_gathered : (fault : CandidatesFault) (result : Result Question Refusal) → IsErrAnd result (λ e. e ≡ gather_refusal fault) → IsOpen d document →
       IsFresh d document
       → (fault ≡ gather.Library → Rose before after) → ((l : Content) → content ≡ Some l → Gathered l.recipes o d.set (Err fault)) →
-      Questions d o content before after document result
+      QuestionOfDocument d o content before after document result
   not_gathered fault result h is_open fresh cause told = (
     [],
     no_draft,
@@ -54,7 +55,7 @@ module _ (d : Device) (o : Origin) (content : Option Content) (before after : �
   pub no_room : (cs : List Candidate) (f : PlanFault) (result : Result Question Refusal) → IsErrAnd result (λ e. e ≡ plan_refusal f) → IsOpen d document →
       IsFresh d document
       → AreCandidatesOf (facts d o content before after document cs no_draft) → IsFirst (room_lines d document) f →
-      Questions d o content before after document result
+      QuestionOfDocument d o content before after document result
   no_room cs f result h is_open fresh gathered first = (
     cs,
     no_draft,
@@ -62,16 +63,17 @@ module _ (d : Device) (o : Origin) (content : Option Content) (before after : �
         (inr (inr (is_open, inr (inr (fresh, inr (inr (gathered, inr (inl (f, first, refl))))))))),
   )
 
-  pub unwanted : (result : Result Question Refusal) → IsErrAnd result (λ e. e ≡ refusal.NoMemory) → Questions d o content before after document result
+  pub unwanted : (result : Result Question Refusal) → IsErrAnd result (λ e. e ≡ refusal.NoMemory) → QuestionOfDocument d o content before after document result
   unwanted result h = ([], no_draft, asks_err (facts d o content before after document [] no_draft) question_checks refusal.NoMemory result h (inl refl))
 
   -- behind a document that was read
-  read_on : (bytes : List ℕ) (f : Facts) (result : Result Question Refusal) → ReadsDocument bytes (Ok f.document) → Asks f question_checks result →
-      Asks f (question_read_checks bytes) result
+  read_on : (bytes : List ℕ) (f : Facts) (result : Result Question Refusal) → ReadsDocument bytes (Ok f.document) → QuestionOfChecks f question_checks result →
+      QuestionOfChecks f (question_read_checks bytes) result
   read_on bytes f (Ok q) reads asks = (asks.0, asks.1, (reads, asks.2))
   read_on bytes f (Err a) reads stops = inr (inr (reads, stops))
 
-  pub read_first : (bytes : List ℕ) (result : Result Question Refusal) → ReadsDocument bytes (Ok document) → Questions d o content before after document result
+  pub read_first : (bytes : List ℕ) (result : Result Question Refusal) → ReadsDocument bytes (Ok document)
+      → QuestionOfDocument d o content before after document result
       → QuestionsRead d o content before after bytes result
   read_first bytes result reads q = (document, q.0, q.1, read_on bytes (facts d o content before after document q.0 q.1) result reads q.2)
 

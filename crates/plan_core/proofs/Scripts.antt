@@ -4,7 +4,7 @@ use Rattle.std.specs.Prelude.{◌≢◌, ◌↔◌, IsTrue, Some, slice_get, fil
 use Rattle.std.specs.List.{AllZip, list_any}
 use Rattle.std.specs.Str.{bytes_eq}
 use Rattle.nuc_base.specs.declared.kinds.Step.TheVariants as steps
-use Rattle.recipe_reader.specs.OneRecipe.{Reads, IsOneRecipe}
+use Rattle.recipe_reader.specs.OneRecipe.{IsRecipeFor, IsOneRecipe}
 use Rattle.recipe_reader.specs.declared.recipe.Dependency.{Dependency}
 use Rattle.recipe_reader.specs.declared.recipe.Recipe.{Recipe}
 use Rattle.recipe_reader.specs.declared.recipe.StepDef.{StepDef}
@@ -39,7 +39,7 @@ one_scope : IsOneRecipe → (origin : Origin) (items : List Item) (at : ℕ) (s 
     AreAlike s t
 one_scope one origin items at s t a b =
     let item = same_item items at a.item b.item a.there b.there in
-    let reads : Reads a.item.recipe origin.platform b.recipe = subst (λ (i : Item). Reads i.recipe origin.platform b.recipe) (sym item) b.reads in
+    let reads : IsRecipeFor a.item.recipe origin.platform b.recipe = subst (λ (i : Item). IsRecipeFor i.recipe origin.platform b.recipe) (sym item) b.reads in
     let same = one a.item.recipe origin.platform a.recipe b.recipe a.reads reads in
     record {
       root = a.root ∙ sym b.root;
@@ -53,7 +53,7 @@ one_script : IsOneRecipe → ExpandAlike → (origin : Origin) (items : List Ite
     items at b → a ≡ b
 one_script one alike origin items at a b first second =
     let item = same_item items at first.item second.item first.there second.there in
-    let reads : Reads first.item.recipe origin.platform second.recipe = subst (λ (i : Item). Reads i.recipe origin.platform second.recipe)
+    let reads : IsRecipeFor first.item.recipe origin.platform second.recipe = subst (λ (i : Item). IsRecipeFor i.recipe origin.platform second.recipe)
     (sym item) second.reads in
     let same = one first.item.recipe origin.platform first.recipe second.recipe first.reads reads in
     let both : Some first.step ≡ Some second.step = sym first.is_step ∙ same.steps steps.Bootstrap ∙ second.is_step in

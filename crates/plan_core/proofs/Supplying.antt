@@ -8,17 +8,17 @@ use Rattle.std.specs.declared.cmp.Ordering.TheVariants.{Less}
 use Rattle.std.proofs.lemmas.List.Elements.{All-contains, All-head, All-tail, recursion_from_All}
 use Rattle.std.proofs.lemmas.List.Kept.{AllPairs-from_increasing}
 use Rattle.std.proofs.lemmas.Option.{slice_get_within, slice_get-map, slice_get_read, get_or_from_slice_get}
-use Rattle.nuc_base.specs.Leads.{Leads, direct, through}
+use Rattle.nuc_base.specs.Leads.{HasPath, direct, through}
 use Rattle.nuc_base.specs.declared.platform.Platform.{Platform}
 use Rattle.nuc_base.proofs.Lists.{in_nil, in_cons, in_here, in_there, in_map, from_map, all_from_in}
-use Rattle.npm_ranges.specs.Ranges.{Meets}
+use Rattle.npm_ranges.specs.Ranges.{IsInRange}
 use Rattle.recipe_reader.specs.Members.{Member, Need, need, member, members, IsBefore, IsRising}
 use Rattle.recipe_reader.specs.OneRecipe.{IsOneRecipe}
-use Rattle.recipe_reader.specs.Sets.{IsValid, IsMet, Needs, needs_in, needs_of, name_in, name_of, version_in, version_of}
+use Rattle.recipe_reader.specs.Sets.{IsValid, IsMet, HasDependency, needs_in, needs_of, name_in, name_of, version_in, version_of}
 use Rattle.recipe_reader.specs.declared.candidate.Candidate.{Candidate}
 use Rattle.recipe_reader.specs.declared.recipe.Dependency.{Dependency}
 use Rattle.records.specs.Stored.{Item}
-use Rattle.device.specs.Plans.{NamesDependency, NeedsByName, IsSupplied, Rise, item_name}
+use Rattle.device.specs.Plans.{NamesDependency, NeedsByName, IsSupplied, AreRising, item_name}
 use Rattle.plan_core.specs.Set.{chosen, with_candidate}
 use Rattle.plan_core.proofs.Filling.{IsMade}
 use Rattle.plan_core.proofs.Growing.{element, some_below, chosen_at}
@@ -142,8 +142,8 @@ module _ (one : IsOneRecipe) (p : Platform) (cs : List Candidate) (rising : IsRi
             absurd (omega (arith, lt, equal)))
       ]
 
-  pub names_rise : Rise (map item_name items)
-  names_rise = subst Rise (names_same p (chosen cs set) items made) (rise_all cs set below (AllPairs-from_increasing set valid.rising) ordered)
+  pub names_rise : AreRising (map item_name items)
+  names_rise = subst AreRising (names_same p (chosen cs set) items made) (rise_all cs set below (AllPairs-from_increasing set valid.rising) ordered)
 
   -- ---- where an item comes from, and what stands for a place
 
@@ -205,7 +205,7 @@ module _ (one : IsOneRecipe) (p : Platform) (cs : List Candidate) (rising : IsRi
         is_one = s.is_one;
         meets = record {
           name = s.named;
-          version = subst (λ (o : Option (List ℕ)). IfSome o (λ v. Meets v d.range))
+          version = subst (λ (o : Option (List ℕ)). IfSome o (λ v. IsInRange v d.range))
               s.version m.2.meets;
         };
       }
@@ -218,7 +218,7 @@ module _ (one : IsOneRecipe) (p : Platform) (cs : List Candidate) (rising : IsRi
   abbrev IsAt : ℕ → List ℕ → Type 0
   IsAt q n = Contains set q × (name_of (members cs) q ≡ Some n)
 
-  step : (a b : List ℕ) → NeedsByName p items a b → (q : ℕ) → IsAt q a → (r : ℕ) × IsAt r b × Needs (members cs) set q r
+  step : (a b : List ℕ) → NeedsByName p items a b → (q : ℕ) → IsAt q a → (r : ℕ) × IsAt r b × HasDependency (members cs) set q r
   step a b n q at =
       let f = from_item n.item n.is_one in
       let same : f.place ≡ q = valid.one_version f.place q f.in_set at.0 (from_name n.item f ∙ ap (λ (m : List ℕ). Some m) n.from ∙ sym at.1) in
@@ -234,7 +234,7 @@ module _ (one : IsOneRecipe) (p : Platform) (cs : List Candidate) (rising : IsRi
         },
       )
 
-  walk : {a b : List ℕ} → Leads (NeedsByName p items) a b → (q : ℕ) → IsAt q a → (r : ℕ) × IsAt r b × Leads (Needs (members cs) set) q r
+  walk : {a b : List ℕ} → HasPath (NeedsByName p items) a b → (q : ℕ) → IsAt q a → (r : ℕ) × IsAt r b × HasPath (HasDependency (members cs) set) q r
   walk (direct {a = x} {b = y} n) q at = let s = step x y n q at in (s.0, s.1, direct s.2)
   walk (through {a = x} {b = y} {c = z} n l) q at =
       let s = step x y n q at in
@@ -246,13 +246,13 @@ module _ (one : IsOneRecipe) (p : Platform) (cs : List Candidate) (rising : IsRi
       let f = from_item n.item n.is_one in
       (f.place, (f.in_set, from_name n.item f ∙ ap (λ (m : List ℕ). Some m) n.from))
 
-  start : {a b : List ℕ} → Leads (NeedsByName p items) a b → (q : ℕ) × IsAt q a
+  start : {a b : List ℕ} → HasPath (NeedsByName p items) a b → (q : ℕ) × IsAt q a
   start (direct {a = x} {b = y} n) = start_at x y n
   start (through {a = x} {b = y} {c = z} n l) = start_at x y n
 
-  pub acyclic : (n : List ℕ) → Leads (NeedsByName p items) n n → ⊥
+  pub acyclic : (n : List ℕ) → HasPath (NeedsByName p items) n n → ⊥
   acyclic n l =
       let s = start l in
       let w = walk l s.0 s.1 in
       let same : w.0 ≡ s.0 = valid.one_version w.0 s.0 w.1.0 s.1.0 (w.1.1 ∙ sym s.1.1) in
-      valid.acyclic s.0 (subst (Leads (Needs (members cs) set) s.0) same w.2)
+      valid.acyclic s.0 (subst (HasPath (HasDependency (members cs) set) s.0) same w.2)

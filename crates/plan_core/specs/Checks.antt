@@ -64,13 +64,13 @@ pub record AreCandidatesOf (f : Facts) : Type 0 where
   pub kept : KeepBytes f.device.set f.candidates
   pub told : (l : Content) → f.content ≡ Some l → Gathered l.recipes f.origin f.device.set (Ok f.candidates)
 
-abbrev pub Passes : Facts → Check → Type 0
-Passes f (Reading bytes) = ReadsDocument bytes (Ok f.document)
-Passes f Opening = IsOpen f.device f.document
-Passes f Ageing = IsFresh f.device f.document
-Passes f Gathering = AreCandidatesOf f
-Passes f Room = AllHold (room_lines f.device f.document)
-Passes f Planning = IsPlanned f.origin f.device f.candidates f.document f.draft
+abbrev pub HasCheckPassed : Facts → Check → Type 0
+HasCheckPassed f (Reading bytes) = ReadsDocument bytes (Ok f.document)
+HasCheckPassed f Opening = IsOpen f.device f.document
+HasCheckPassed f Ageing = IsFresh f.device f.document
+HasCheckPassed f Gathering = AreCandidatesOf f
+HasCheckPassed f Room = AllHold (room_lines f.device f.document)
+HasCheckPassed f Planning = IsPlanned f.origin f.device f.candidates f.document f.draft
 
 -- ---- what a check answers that fails
 
@@ -91,23 +91,23 @@ pub record IsGatherFault (f : Facts) (fault : CandidatesFault) : Type 0 where
   pub cause : fault ≡ gather.Library → Rose f.before f.after
   pub told : (l : Content) → f.content ≡ Some l → Gathered l.recipes f.origin f.device.set (Err fault)
 
-abbrev pub Fails : Facts → Check → Refusal → Type 0
-Fails f (Reading bytes) a = (fault : DocFault) × IsFault bytes fault × (a ≡ document_refusal fault)
-Fails f Opening a = (o : Outcome) × (lookup (bytes_eq f.document.id) f.device.closed ≡ Some o) × (a ≡ Repeated f.document.id o)
-Fails f Ageing a = (IsFresh f.device f.document → ⊥) × (a ≡ Stale f.document.id (revision_of f.document.group f.device.groups))
-Fails f Gathering a = (fault : CandidatesFault) × IsGatherFault f fault × (a ≡ gather_refusal fault)
-Fails f Room a = (fault : PlanFault) × IsFirst (room_lines f.device f.document) fault × (a ≡ plan_refusal fault)
-Fails f Planning a = (fault : PlanFault) × IsRefused f.device f.candidates f.document fault × (a ≡ plan_refusal fault)
+abbrev pub HasCheckFailed : Facts → Check → Refusal → Type 0
+HasCheckFailed f (Reading bytes) a = (fault : DocFault) × IsFault bytes fault × (a ≡ document_refusal fault)
+HasCheckFailed f Opening a = (o : Outcome) × (lookup (bytes_eq f.document.id) f.device.closed ≡ Some o) × (a ≡ Repeated f.document.id o)
+HasCheckFailed f Ageing a = (IsFresh f.device f.document → ⊥) × (a ≡ Stale f.document.id (revision_of f.document.group f.device.groups))
+HasCheckFailed f Gathering a = (fault : CandidatesFault) × IsGatherFault f fault × (a ≡ gather_refusal fault)
+HasCheckFailed f Room a = (fault : PlanFault) × IsFirst (room_lines f.device f.document) fault × (a ≡ plan_refusal fault)
+HasCheckFailed f Planning a = (fault : PlanFault) × IsRefused f.device f.candidates f.document fault × (a ≡ plan_refusal fault)
 
 -- the first check that fails answers. Want of memory is free.
-abbrev pub Stops : Facts → List Check → Refusal → Type 0
-Stops f [] a = ⊥
-Stops f (k ∷ checks) a = (a ≡ NoMemory) ⊎ Fails f k a ⊎ (Passes f k × Stops f checks a)
+abbrev pub RefusalOf : Facts → List Check → Refusal → Type 0
+RefusalOf f [] a = ⊥
+RefusalOf f (k ∷ checks) a = (a ≡ NoMemory) ⊎ HasCheckFailed f k a ⊎ (HasCheckPassed f k × RefusalOf f checks a)
 
 -- none fails
 abbrev pub PassesAll : Facts → List Check → Type 0
 PassesAll f [] = ⊤
-PassesAll f (k ∷ checks) = Passes f k × PassesAll f checks
+PassesAll f (k ∷ checks) = HasCheckPassed f k × PassesAll f checks
 
 -- ---- the order
 
@@ -120,9 +120,9 @@ abbrev pub read_checks : List ℕ → List Check
 read_checks bytes = Reading bytes ∷ plan_checks
 
 -- every check passes and this is the draft, or the first that fails answers
-abbrev pub Comes : Facts → List Check → Result code.Draft Refusal → Type 0
-Comes f checks (Ok draft) = (f.draft ≡ draft_view draft) × PassesAll f checks
-Comes f checks (Err a) = Stops f checks a
+abbrev pub DraftOfChecks : Facts → List Check → Result code.Draft Refusal → Type 0
+DraftOfChecks f checks (Ok draft) = (f.draft ≡ draft_view draft) × PassesAll f checks
+DraftOfChecks f checks (Err a) = RefusalOf f checks a
 
 -- ---- the calls
 
@@ -133,8 +133,8 @@ OpensId d id result = MatchResult result
     (λ a. (a ≡ NoMemory) ⊎ ((o : Outcome) × (lookup (bytes_eq id) d.closed ≡ Some o) × (a ≡ Repeated id o)))
 
 -- the two checks that look at the device alone pass, or the first that fails answers
-abbrev pub Opens : Device → Document → Result (Unit {0}) Refusal → Type 0
-Opens d document result = MatchResult result
+abbrev pub DeviceChecks : Device → Document → Result (Unit {0}) Refusal → Type 0
+DeviceChecks d document result = MatchResult result
     (λ _. IsOpen d document × IsFresh d document)
     (λ a. (a ≡ NoMemory)
     ⊎ ((o : Outcome) × (lookup (bytes_eq document.id) d.closed ≡ Some o) × (a ≡ Repeated document.id o))
@@ -145,11 +145,12 @@ facts d origin content before after document cs draft =
     record { device = d; origin = origin; document = document; content = content; candidates = cs; draft = draft; before = before; after = after }
 
 -- what comes of a document, by some candidates and a draft
-abbrev pub Proposes : Device → Origin → Option Content → ℕ → ℕ → Document → Result code.Draft Refusal → Type 0
-Proposes d origin content before after document result =
-    (cs : List Candidate) × (draft : Draft) × Comes (facts d origin content before after document cs draft) plan_checks result
+abbrev pub DraftOfDocument : Device → Origin → Option Content → ℕ → ℕ → Document → Result code.Draft Refusal → Type 0
+DraftOfDocument d origin content before after document result =
+    (cs : List Candidate) × (draft : Draft) × DraftOfChecks (facts d origin content before after document cs draft) plan_checks result
 
 -- what comes of the bytes of a document, by what they read as besides
 abbrev pub ProposesRead : Device → Origin → Option Content → ℕ → ℕ → List ℕ → Result code.Draft Refusal → Type 0
 ProposesRead d origin content before after bytes result =
-    (document : Document) × (cs : List Candidate) × (draft : Draft) × Comes (facts d origin content before after document cs draft) (read_checks bytes) result
+    (document : Document) × (cs : List Candidate) × (draft : Draft)
+    × DraftOfChecks (facts d origin content before after document cs draft) (read_checks bytes) result

@@ -10,7 +10,7 @@ use Rattle.device.specs.Grouped.{has_group}
 use Rattle.deployment_doc.specs.declared.document.Document.{Document}
 use Rattle.device.specs.Lawful.{Allowed}
 use Rattle.device.specs.Limits.{most_closed, most_groups}
-use Rattle.device.specs.Filled.{Fills}
+use Rattle.device.specs.Filled.{PlanFilled}
 use Rattle.plan_core.specs.Ready.{MayPlan}
 use Rattle.plan_core.specs.Plans.{room_lines, IsPlanned, IsRefused, HasNoSet}
 use Rattle.plan_core.specs.declared.fault.PlanFault.{PlanFault}
@@ -35,5 +35,5 @@ VersionsComeThird = (d : Device) (cs : List Candidate) (document : Document) (f 
 -- a plan that fills a draft which was made of candidates in order may be accepted
 abbrev pub FilledIsAllowed : Type 0
 FilledIsAllowed = (origin : Origin) (d : Device) (cs : List Candidate) (document : Document) (draft : Draft) (plan : Plan)
-    → d.origin ≡ Some origin → IsRising (members cs) → MayPlan origin d cs document → IsPlanned origin d cs document draft → Fills draft plan
+    → d.origin ≡ Some origin → IsRising (members cs) → MayPlan origin d cs document → IsPlanned origin d cs document draft → PlanFilled draft plan
     → Allowed d (Accepted plan)

@@ -1,6 +1,6 @@
 -- The steps by which a plan is made.
 use Rattle.std.specs.Prelude.{◌≡◌, ◌⊎◌, ℕ, ◌≤◌, ◌<◌, List, length, map, All, Result, MatchResult}
-use Rattle.nuc_base.specs.Tables.{AllHold, Faults, each}
+use Rattle.nuc_base.specs.Tables.{AllHold, IsFaultBy, each}
 use Rattle.dep_order.specs.Orders.{IsAcyclic}
 use Rattle.recipe_reader.specs.Candidates.{IsReadFor}
 use Rattle.recipe_reader.specs.Members.{members}
@@ -34,8 +34,8 @@ HasNoFewChoice d cs document f =
     ⊎ ((choice : List Candidate) × IsChoice d cs document choice × (most_elements < length choice) × (f ≡ fault.TooManyComponents (length choice)))
 
 -- what choosing a set answers
-abbrev pub Chooses : Device → List Candidate → Document → Result (List ℕ) PlanFault → Type 0
-Chooses d cs document result = MatchResult result
+abbrev pub ChoiceOutcome : Device → List Candidate → Document → Result (List ℕ) PlanFault → Type 0
+ChoiceOutcome d cs document result = MatchResult result
     (λ set. IsPreferred (members cs) (wanted_of d.groups document) set)
     (λ f. (f ≡ fault.NoMemory) ⊎ ((f ≡ fault.NoVersion) × HasNoSet d cs document))
 
@@ -50,10 +50,10 @@ pub record MayMake (origin : Origin) (d : Device) (document : Document) (choice 
   pub roots : AreSound document.roots
 
 -- the items and the boots, or the first configuration that is too long
-abbrev pub Makes : Origin → Device → Document → List Candidate → Result (List code.DraftItem × List (List ℕ)) PlanFault → Type 0
-Makes origin d document choice result = MatchResult result
+abbrev pub ItemsOutcome : Origin → Device → Document → List Candidate → Result (List code.DraftItem × List (List ℕ)) PlanFault → Type 0
+ItemsOutcome origin d document choice result = MatchResult result
     (λ made. (map draft_item_view made.0 ≡ items_of d.set document.roots choice)
     × AllHold (each config_lines (map bare (items_of d.set document.roots choice)))
     × AreRegularItems (map bare (items_of d.set document.roots choice))
     × AreBoots origin d.set choice (map bare (items_of d.set document.roots choice)) made.1)
-    (Faults fault.NoMemory (each config_lines (map bare (items_of d.set document.roots choice))))
+    (IsFaultBy fault.NoMemory (each config_lines (map bare (items_of d.set document.roots choice))))

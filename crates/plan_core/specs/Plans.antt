@@ -79,7 +79,7 @@ pub record IsPlanned (origin : Origin) (d : Device) (cs : List Candidate) (docum
   pub regular : AreRegularItems (map bare draft.items)
 
 -- want of memory is free
-abbrev pub Plans : Origin → Device → List Candidate → Document → Result code.Draft PlanFault → Type 0
-Plans origin d cs document result = MatchResult result
+abbrev pub PlanOutcome : Origin → Device → List Candidate → Document → Result code.Draft PlanFault → Type 0
+PlanOutcome origin d cs document result = MatchResult result
     (λ draft. IsPlanned origin d cs document (draft_view draft))
     (λ f. (f ≡ fault.NoMemory) ⊎ IsRefused d cs document f)

@@ -7,7 +7,7 @@ use Rattle.records.specs.Stored.{Draft}
 use Rattle.records.specs.declared.record.Origin.{Origin}
 use Rattle.device.specs.Devices.{Device}
 use Rattle.deployment_doc.specs.declared.document.Document.{Document}
-use Rattle.plan_core.specs.Checks.{Facts, facts, Check, Reading, Opening, Ageing, Gathering, Room, PassesAll, Stops}
+use Rattle.plan_core.specs.Checks.{Facts, facts, Check, Reading, Opening, Ageing, Gathering, Room, PassesAll, RefusalOf}
 use Rattle.plan_core.specs.Requests.{wanted_of}
 use Rattle.plan_core.specs.declared.fault.Refusal.{Refusal}
 use Rattle.plan_core.specs.declared.questions.Question.{Question}
@@ -21,17 +21,17 @@ abbrev pub question_read_checks : List ℕ → List Check
 question_read_checks bytes = Reading bytes ∷ question_checks
 
 -- every check passes, these are the candidates and this is wanted of them; or the first check that fails answers
-abbrev pub Asks : Facts → List Check → Result Question Refusal → Type 0
-Asks f checks (Ok q) = (q.candidates ≡ f.candidates) × (asked q.wanted ≡ wanted_of f.device.groups f.document) × PassesAll f checks
-Asks f checks (Err a) = Stops f checks a
+abbrev pub QuestionOfChecks : Facts → List Check → Result Question Refusal → Type 0
+QuestionOfChecks f checks (Ok q) = (q.candidates ≡ f.candidates) × (asked q.wanted ≡ wanted_of f.device.groups f.document) × PassesAll f checks
+QuestionOfChecks f checks (Err a) = RefusalOf f checks a
 
 -- what a document asks, by some candidates. No check looks at the draft.
-abbrev pub Questions : Device → Origin → Option Content → ℕ → ℕ → Document → Result Question Refusal → Type 0
-Questions d origin content before after document result =
-    (cs : List Candidate) × (draft : Draft) × Asks (facts d origin content before after document cs draft) question_checks result
+abbrev pub QuestionOfDocument : Device → Origin → Option Content → ℕ → ℕ → Document → Result Question Refusal → Type 0
+QuestionOfDocument d origin content before after document result =
+    (cs : List Candidate) × (draft : Draft) × QuestionOfChecks (facts d origin content before after document cs draft) question_checks result
 
 -- what the bytes of a document ask, by what they read as besides
 abbrev pub QuestionsRead : Device → Origin → Option Content → ℕ → ℕ → List ℕ → Result Question Refusal → Type 0
 QuestionsRead d origin content before after bytes result =
-    (document : Document) × (cs : List Candidate) × (draft : Draft) × Asks (facts d origin content before after document cs draft)
+    (document : Document) × (cs : List Candidate) × (draft : Draft) × QuestionOfChecks (facts d origin content before after document cs draft)
     (question_read_checks bytes) result

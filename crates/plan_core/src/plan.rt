@@ -5,9 +5,9 @@ ghost use Rattle.records.specs.Stored.{draft_view};
 ghost use Rattle.records.specs.declared.record.Origin.{Origin};
 ghost use Rattle.device.specs.Devices.{device_view};
 ghost use Rattle.plan_core.specs.Looks.{candidates_of};
-ghost use Rattle.plan_core.specs.Plans.{Plans, IsHeadOf};
+ghost use Rattle.plan_core.specs.Plans.{PlanOutcome, IsHeadOf};
 ghost use Rattle.plan_core.specs.Ready.{MayPlan};
-ghost use Rattle.plan_core.specs.Parts.{IsFewChoice, HasNoFewChoice, Chooses, MayMake, Makes};
+ghost use Rattle.plan_core.specs.Parts.{IsFewChoice, HasNoFewChoice, ChoiceOutcome, MayMake, ItemsOutcome};
 ghost use Rattle.plan_core.specs.declared.fault.PlanFault.TheVariants.{NoMemory as OutOfMemory};
 
 use crate::boots::boots_of;
@@ -31,7 +31,7 @@ fn set_of(
     candidates: &Candidates,
     document: &Document,
 ) -> Result<List<u32>, PlanFault>
-    ensures { Chooses (device_view device.now) candidates.now document.now result }
+    ensures { ChoiceOutcome (device_view device.now) candidates.now document.now result }
 {
     let wanted = wanted_of(alloc, &device.groups, document)?;
     let mut tries = 0;
@@ -69,7 +69,7 @@ fn parts_of(
     choice: &[&Candidate],
 ) -> Result<(List<DraftItem>, List<Name>), PlanFault>
     requires may { MayMake origin.now (device_view device.now) document.now (candidates_of choice.now) }
-    ensures { Makes origin.now (device_view device.now) document.now (candidates_of choice.now) result }
+    ensures { ItemsOutcome origin.now (device_view device.now) document.now (candidates_of choice.now) result }
 {
     recipe_laws();
     let set = &device.set;
@@ -111,7 +111,7 @@ pub fn make_plan(
     document: &Document,
 ) -> Result<Draft, PlanFault>
     requires { IsSomeAnd device.now.origin (λ o. MayPlan o (device_view device.now) candidates.now document.now) }
-    ensures { (o : Origin) → device.now.origin ≡ Some o → Plans o (device_view device.now) candidates.now document.now result }
+    ensures { (o : Origin) → device.now.origin ≡ Some o → PlanOutcome o (device_view device.now) candidates.now document.now result }
 {
     let Some(origin) = &device.origin else {
         unreachable!()

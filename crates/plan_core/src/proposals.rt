@@ -6,7 +6,7 @@ ghost use Rattle.device.specs.Devices.{device_view, IsRegularDevice};
 ghost use Rattle.device.specs.Sound.{IsSound};
 ghost use Rattle.deployment_doc.specs.Sound.{AreSound};
 ghost use Rattle.plan_core.specs.Ready.{IsFresh};
-ghost use Rattle.plan_core.specs.Checks.{Opens, OpensId, Proposes, ProposesRead};
+ghost use Rattle.plan_core.specs.Checks.{DeviceChecks, OpensId, DraftOfDocument, ProposesRead};
 ghost use Rattle.library_core.specs.declared.fault.CandidatesFault.TheVariants.{Library as LibraryFailed};
 
 use crate::fault::Refusal;
@@ -38,7 +38,7 @@ pub fn open_id(alloc: Global, device: &Device, id: &Label) -> Result<(), Refusal
 
 /// Whether the document is new to the device: no deployment of its id is closed, and it is no older than its group.
 pub(crate) fn open(alloc: Global, device: &Device, document: &Document) -> Result<(), Refusal>
-    ensures { Opens (device_view device.now) document.now result }
+    ensures { DeviceChecks (device_view device.now) document.now result }
 {
     open_id(alloc, device, &document.id)?;
     if !is_fresh(device, document) {
@@ -63,7 +63,7 @@ pub fn propose<L: Library>(
     requires sound { IsSound (device_view device.now) }
     requires regular { IsRegularDevice (device_view device.now) }
     requires roots { AreSound document.now.roots }
-    ensures proposes { (o : Origin) → device.now.origin ≡ Some o → Proposes (device_view device.now) o (L.content library.old) (L.faults library.old)
+    ensures proposes { (o : Origin) → device.now.origin ≡ Some o → DraftOfDocument (device_view device.now) o (L.content library.old) (L.faults library.old)
         (L.faults library.new) document.now result }
     ensures kept { L.content library.new ≡ L.content library.old }
     ensures cause { IsErrOf result (Refusal.Candidates LibraryFailed) → Rose (L.faults library.old) (L.faults library.new) }

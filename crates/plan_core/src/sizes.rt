@@ -1,7 +1,7 @@
 //! The checks of a plan.
 ghost use Rattle.std.specs.Prelude.{◌≡◌, ◌⊎◌, ℕ, ◌≤◌, ◌<◌, ◌^◌, map, length, MatchResult};
 ghost use Rattle.serde_json.specs.Written.{compact_text};
-ghost use Rattle.nuc_base.specs.Tables.{AllHold, IsFirst, Faults, each};
+ghost use Rattle.nuc_base.specs.Tables.{AllHold, IsFirst, IsFaultBy, each};
 ghost use Rattle.tree_core.specs.View.{view};
 ghost use Rattle.tree_core.specs.Regular.{IsRegular};
 ghost use Rattle.records.specs.Stored.{item_view};
@@ -47,7 +47,7 @@ pub(crate) fn check_count(count: usize) -> Result<(), PlanFault>
 
 fn check_config(alloc: Global, item: &Item) -> Result<(), PlanFault>
     requires { IsRegular (view item.now.config) }
-    ensures { MatchResult result (λ _. AllHold (config_lines (item_view item.now))) (Faults OutOfMemory (config_lines (item_view item.now))) }
+    ensures { MatchResult result (λ _. AllHold (config_lines (item_view item.now))) (IsFaultBy OutOfMemory (config_lines (item_view item.now))) }
 {
     let text = item.config.write(alloc)?;
     if text.len() > MOST_CONFIG {
@@ -62,7 +62,7 @@ pub(crate) fn check_configs(alloc: Global, items: &[Item]) -> Result<(), PlanFau
     requires { AreRegularItems (map item_view items.now) }
     ensures { MatchResult result
         (λ _. AllHold (each config_lines (map item_view items.now)))
-        (Faults OutOfMemory (each config_lines (map item_view items.now))) }
+        (IsFaultBy OutOfMemory (each config_lines (map item_view items.now))) }
 {
     for item in items {
         check_config(alloc, item)?;

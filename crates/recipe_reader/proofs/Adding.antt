@@ -5,7 +5,7 @@ use Rattle.std.specs.List.{AllWithin, HoldsAt, insert}
 use Rattle.std.proofs.lemmas.List.{get_or_default}
 use Rattle.std.proofs.lemmas.List.Edits.{length-insert}
 use Rattle.recipe_reader.specs.Members.{member, IsBefore}
-use Rattle.recipe_reader.specs.Candidates.{IsRead, AreCandidates, IsAlike, Clashes, IsPutIn, IsAdded}
+use Rattle.recipe_reader.specs.Candidates.{IsRead, AreCandidates, IsAlike, HasClash, IsPutIn, IsAdded}
 use Rattle.recipe_reader.specs.Refused.{IsRefused}
 use Rattle.recipe_reader.specs.declared.candidate.Candidate.{Candidate}
 use Rattle.recipe_reader.specs.declared.candidates.AddRefusal.{AddRefusal}
@@ -14,7 +14,7 @@ use Rattle.recipe_reader.proofs.Orders.{rising_pairs, pairs_rising, pairs_insert
 
 pub record Outcome (old : List Candidate) (c : Candidate) (new : List Candidate) (r : Result (Unit {0}) AddRefusal) : Type 0 where
   pub added : OnOk r (IsAdded old c new)
-  pub agrees : OnOk r (Clashes old c → ⊥)
+  pub agrees : OnOk r (HasClash old c → ⊥)
   pub refused : IfErr r (IsRefused old c)
   pub unchanged : OnErr r (new ≡ old)
   pub rule : AreCandidates new

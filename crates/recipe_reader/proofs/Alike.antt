@@ -18,7 +18,7 @@ use Rattle.recipe_reader.specs.Dependencies.{IsDependency, IsRangeOf, IsHard, Ar
 use Rattle.recipe_reader.specs.Environment.{Variable, IsVariable, AreVariables, IsJoined}
 use Rattle.recipe_reader.specs.Keys.{is_same}
 use Rattle.recipe_reader.specs.Lifecycles.{key_value, AreSteps}
-use Rattle.recipe_reader.specs.OneRecipe.{Reads, AreAlike}
+use Rattle.recipe_reader.specs.OneRecipe.{IsRecipeFor, AreAlike}
 use Rattle.recipe_reader.specs.Recipes.{IsRecipe, IsFault, IsDefault, recipe_lines, limit, inner, manifest_of}
 use Rattle.recipe_reader.specs.Spelled.{spelled}
 use Rattle.recipe_reader.specs.Steps.{IsAsked, IsSkip, IsSkipOf, IsLimit, IsEnvironment, IsStepDef, IsStep, trimmed, step_of, key_of}
@@ -200,16 +200,16 @@ recipe_one platform d r s h k = record {
 }
 
 -- the bytes say of the way back what their recipe says
-pub reads_back : (bytes : List ℕ) (platform : Platform) (r : Recipe) → Reads bytes platform r → r.boot_back ≡ is_back platform bytes
+pub reads_back : (bytes : List ℕ) (platform : Platform) (r : Recipe) → IsRecipeFor bytes platform r → r.boot_back ≡ is_back platform bytes
 unfolding is_back
 reads_back bytes platform r h = h.3.boot_back ∙ sym (ap (back_read platform) h.1.json.value)
 
 module _ (one_tree : IsOneTree) (no_fault : TreeHasNoFault) (bytes : List ℕ) (platform : Platform) where
-  pub reads_one : (r s : Recipe) → Reads bytes platform r → Reads bytes platform s → AreAlike r s
+  pub reads_one : (r s : Recipe) → IsRecipeFor bytes platform r → IsRecipeFor bytes platform s → AreAlike r s
   reads_one r s h k =
       recipe_one platform k.0 r s (subst (λ (d : Data). IsRecipe platform d r) (one_tree bytes limit h.0 k.0 h.1 k.1) h.3) k.3
 
-  pub fault_none : (r : Recipe) (f : RecipeFault) → Reads bytes platform r → (f ≡ NoMemory) ⊎ IsFault bytes platform f → f ≡ NoMemory
+  pub fault_none : (r : Recipe) (f : RecipeFault) → IsRecipeFor bytes platform r → (f ≡ NoMemory) ⊎ IsFault bytes platform f → f ≡ NoMemory
   fault_none r f h (inl k) = k
   fault_none r f h (inr (inl k)) = absurd (k.3 (no_fault bytes limit h.0 k.0 h.1 k.2))
   fault_none r f h (inr (inr k)) =

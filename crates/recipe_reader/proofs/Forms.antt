@@ -7,24 +7,24 @@ use Rattle.std.proofs.lemmas.List.Splits.{slice_split_first, slice_split_none}
 use Rattle.std.proofs.lemmas.List.Sums.{fails_before_first}
 use Rattle.recipe_reader.specs.Platforms.{inside, before_slash, words}
 
-slash_ends : (front : List ℕ) → before_slash (front ++ 47 ∷ []) ≡ Some front
+slash_ends : (prefix : List ℕ) → before_slash (prefix ++ 47 ∷ []) ≡ Some prefix
 slash_ends [] = refl
 slash_ends (x ∷ []) = refl
 slash_ends (x ∷ y ∷ rest) = ap (option_map (λ s. x ∷ s)) (slash_ends (y ∷ rest))
 
-slash_missing : (s : List ℕ) → ((front : List ℕ) → s ≢ front ++ 47 ∷ []) → before_slash s ≡ None
+slash_missing : (s : List ℕ) → ((prefix : List ℕ) → s ≢ prefix ++ 47 ∷ []) → before_slash s ≡ None
 slash_missing [] h = refl
 slash_missing (x ∷ []) h =
     let other : (x == 47) ≡ false = ne_eqb x 47 (λ e. h [] (ap (λ z. z ∷ []) e)) in
     rw other refl
-slash_missing (x ∷ y ∷ rest) h = ap (option_map (λ s. x ∷ s)) (slash_missing (y ∷ rest) (λ front e. h (x ∷ front) (ap (λ l. x ∷ l) e)))
+slash_missing (x ∷ y ∷ rest) h = ap (option_map (λ s. x ∷ s)) (slash_missing (y ∷ rest) (λ prefix e. h (x ∷ prefix) (ap (λ l. x ∷ l) e)))
 
-ends_within : (rest : List ℕ) (r : Option (Bor (List ℕ))) → MatchOption r ((front : List ℕ) → rest ≢ front ++ 47 ∷ []) (λ x. rest ≡ x.now ++ 47 ∷ []) →
+ends_within : (rest : List ℕ) (r : Option (Bor (List ℕ))) → MatchOption r ((prefix : List ℕ) → rest ≢ prefix ++ 47 ∷ []) (λ x. rest ≡ x.now ++ 47 ∷ []) →
     option_map (λ t. t.now) r ≡ before_slash rest
 ends_within rest None h = sym (slash_missing rest h)
 ends_within rest (Some x) h = sym (ap before_slash h ∙ slash_ends x.now)
 
-pub inside_within : (s rest : List ℕ) (r : Option (Bor (List ℕ))) → s ≡ 47 ∷ rest → MatchOption r ((front : List ℕ) → rest ≢ front ++ 47
+pub inside_within : (s rest : List ℕ) (r : Option (Bor (List ℕ))) → s ≡ 47 ∷ rest → MatchOption r ((prefix : List ℕ) → rest ≢ prefix ++ 47
     ∷ []) (λ x. rest ≡ x.now ++ 47 ∷ []) → option_map (λ t. t.now) r ≡ inside s
 inside_within s rest r is h = ends_within rest r h ∙ ap inside (sym is)
 

@@ -12,7 +12,7 @@ use Rattle.std.specs.Cmp.Lexicographic.{slice_cmp, nat_list_cmp_total}
 use Rattle.serde_json.specs.Data.{Members, no_members, member}
 use Rattle.tree_core.specs.Regular.{IsBelowAll, MembersAreOrderly}
 use Rattle.tree_core.specs.Parts.{pairs_of}
-use Rattle.recipe_reader.specs.Environment.{Variable, IsVariable, IsBelow, Rises, find_in, IsJoined}
+use Rattle.recipe_reader.specs.Environment.{Variable, IsVariable, IsBelow, HaveRisingNames, find_in, IsJoined}
 
 abbrev pub cmp : List ℕ → List ℕ → Ordering
 cmp k l = slice_cmp nat_cmp k l
@@ -31,8 +31,8 @@ merged (x ∷ xs) ys = before_in x (merged xs) ys
 same_from : (k l m : List ℕ) → cmp k l ≡ Equal → cmp m k ≡ cmp m l
 same_from k l m e = nat_list_cmp_total.antisymm m k ∙ ap ordering_reverse (nat_list_cmp_total.congr k l m e) ∙ sym (nat_list_cmp_total.antisymm m l)
 
-turned : (k l : List ℕ) → cmp k l ≡ Greater → cmp l k ≡ Less
-turned k l e = nat_list_cmp_total.antisymm l k ∙ ap ordering_reverse e
+swapped : (k l : List ℕ) → cmp k l ≡ Greater → cmp l k ≡ Less
+swapped k l e = nat_list_cmp_total.antisymm l k ∙ ap ordering_reverse e
 
 below_later : (k l : List ℕ) (xs : List Variable) → cmp k l ≡ Less → IsBelow l xs → IsBelow k xs
 below_later k l [] first h = tt
@@ -71,26 +71,26 @@ below_merged k (x ∷ xs) ys h later = below_in k x (merged xs) h.0 (λ zs. belo
 -- ---- what they become rises
 
 rises_at : (x y : Variable) (more : List Variable → List Variable) (ys : List Variable) (o : Ordering) → cmp x.0 y.0 ≡ o
-    → ((zs : List Variable) → Rises zs → Rises (more zs))
+    → ((zs : List Variable) → HaveRisingNames zs → HaveRisingNames (more zs))
     → ((zs : List Variable) → IsBelow x.0 zs → IsBelow x.0 (more zs))
     → ((k : List ℕ) → cmp k x.0 ≡ Less → (zs : List Variable) → IsBelow k zs → IsBelow k (more zs))
-    → Rises (y ∷ ys) → Rises (before_in x more ys)
-    → Rises (match_ordering o (x ∷ more (y ∷ ys)) (x ∷ more ys) (y ∷ before_in x more ys))
+    → HaveRisingNames (y ∷ ys) → HaveRisingNames (before_in x more ys)
+    → HaveRisingNames (match_ordering o (x ∷ more (y ∷ ys)) (x ∷ more ys) (y ∷ before_in x more ys))
 rises_at x y more ys Less is rises own under h rest = (own (y ∷ ys) (is, below_later x.0 y.0 ys is h.0), rises (y ∷ ys) h)
 rises_at x y more ys Equal is rises own under h rest = (own ys (below_same x.0 y.0 ys is h.0), rises ys h.1)
 rises_at x y more ys Greater is rises own under h rest =
-    let before : cmp y.0 x.0 ≡ Less = turned x.0 y.0 is in
+    let before : cmp y.0 x.0 ≡ Less = swapped x.0 y.0 is in
     (below_in y.0 x more before (under y.0 before) ys h.0, rest)
 
 rises_in : (x : Variable) (more : List Variable → List Variable)
-    → ((zs : List Variable) → Rises zs → Rises (more zs))
+    → ((zs : List Variable) → HaveRisingNames zs → HaveRisingNames (more zs))
     → ((zs : List Variable) → IsBelow x.0 zs → IsBelow x.0 (more zs))
     → ((k : List ℕ) → cmp k x.0 ≡ Less → (zs : List Variable) → IsBelow k zs → IsBelow k (more zs))
-    → (ys : List Variable) → Rises ys → Rises (before_in x more ys)
+    → (ys : List Variable) → HaveRisingNames ys → HaveRisingNames (before_in x more ys)
 rises_in x more rises own under [] h = (own [] tt, rises [] tt)
 rises_in x more rises own under (y ∷ ys) h = rises_at x y more ys (cmp x.0 y.0) refl rises own under h (rises_in x more rises own under ys h.1)
 
-rises_merged : (xs ys : List Variable) → Rises xs → Rises ys → Rises (merged xs ys)
+rises_merged : (xs ys : List Variable) → HaveRisingNames xs → HaveRisingNames ys → HaveRisingNames (merged xs ys)
 rises_merged [] ys h later = later
 rises_merged (x ∷ xs) ys h later =
     rises_in x (merged xs) (λ zs. rises_merged xs zs h.1) (λ zs. below_merged x.0 xs zs h.0)
@@ -117,8 +117,8 @@ other_first Equal p e w f g k none h = ap (λ z. option_or z (Some w)) (sym (non
 other_first Greater p e w f g k none h = h
 
 values_at : (n : List ℕ) (x y : Variable) (xs : List Variable) (more : List Variable → List Variable) (ys : List Variable) (o : Ordering) → cmp x.0 y.0 ≡ o
-    → ((zs : List Variable) → Rises zs → find_in n (more zs) ≡ option_or (find_in n xs) (find_in n zs))
-    → Rises (x ∷ xs) → Rises (y ∷ ys) → find_in n (before_in x more ys) ≡ option_or (find_in n (x ∷ xs)) (find_in n ys)
+    → ((zs : List Variable) → HaveRisingNames zs → find_in n (more zs) ≡ option_or (find_in n xs) (find_in n zs))
+    → HaveRisingNames (x ∷ xs) → HaveRisingNames (y ∷ ys) → find_in n (before_in x more ys) ≡ option_or (find_in n (x ∷ xs)) (find_in n ys)
     → find_in n (match_ordering o (x ∷ more (y ∷ ys)) (x ∷ more ys) (y ∷ before_in x more ys)) ≡ option_or (find_in n (x ∷ xs)) (find_in n (y ∷ ys))
 values_at n x y xs more ys Less is later own h rest =
     own_first (cmp n x.0) x.1 (find_in n (more (y ∷ ys))) (find_in n xs) (find_in n (y ∷ ys)) (later (y ∷ ys) h)
@@ -126,7 +126,7 @@ values_at n x y xs more ys Equal is later own h rest =
     own_for_both (cmp n x.0) x.1 y.1 (find_in n (more ys)) (find_in n xs) (find_in n ys) (later ys h.1)
     ∙ ap (λ o. option_or (find_in n (x ∷ xs)) (match_ordering o (find_in n ys) (Some y.1) (find_in n ys))) (same_from x.0 y.0 n is)
 values_at n x y xs more ys Greater is later own h rest =
-    let before : cmp y.0 x.0 ≡ Less = turned x.0 y.0 is in
+    let before : cmp y.0 x.0 ≡ Less = swapped x.0 y.0 is in
     other_first (cmp n y.0) (cmp n y.0) refl y.1 (find_in n (before_in x more ys)) (find_in n (x ∷ xs)) (find_in n ys)
     (λ same. absent n y.0 (x ∷ xs) same (before, below_later y.0 x.0 xs before own.0)) rest
 
@@ -135,16 +135,17 @@ or_none None = refl
 or_none (Some v) = refl
 
 values_in : (n : List ℕ) (x : Variable) (xs : List Variable) (more : List Variable → List Variable)
-    → ((zs : List Variable) → Rises zs → find_in n (more zs) ≡ option_or (find_in n xs) (find_in n zs))
-    → Rises (x ∷ xs) → (ys : List Variable) → Rises ys → find_in n (before_in x more ys) ≡ option_or (find_in n (x ∷ xs)) (find_in n ys)
+    → ((zs : List Variable) → HaveRisingNames zs → find_in n (more zs) ≡ option_or (find_in n xs) (find_in n zs))
+    → HaveRisingNames (x ∷ xs) → (ys : List Variable) → HaveRisingNames ys → find_in n (before_in x more ys) ≡ option_or (find_in n (x ∷ xs)) (find_in n ys)
 values_in n x xs more later own [] h = own_first (cmp n x.0) x.1 (find_in n (more [])) (find_in n xs) None (later [] tt)
 values_in n x xs more later own (y ∷ ys) h = values_at n x y xs more ys (cmp x.0 y.0) refl later own h (values_in n x xs more later own ys h.1)
 
-values_merged : (n : List ℕ) (xs ys : List Variable) → Rises xs → Rises ys → find_in n (merged xs ys) ≡ option_or (find_in n xs) (find_in n ys)
+values_merged : (n : List ℕ) (xs ys : List Variable) → HaveRisingNames xs → HaveRisingNames ys
+    → find_in n (merged xs ys) ≡ option_or (find_in n xs) (find_in n ys)
 values_merged n [] ys h later = refl
 values_merged n (x ∷ xs) ys h later = values_in n x xs (merged xs) (λ zs. values_merged n xs zs h.1) h ys later
 
-pub merged_joins : (xs ys : List Variable) → Rises xs → Rises ys → IsJoined xs ys (merged xs ys)
+pub merged_joins : (xs ys : List Variable) → HaveRisingNames xs → HaveRisingNames ys → IsJoined xs ys (merged xs ys)
 merged_joins xs ys h later = record { rises = rises_merged xs ys h later; values = λ n. values_merged n xs ys h later }
 
 -- ---- the end: one of both is through
@@ -174,7 +175,7 @@ below_variables k no_members (x ∷ xs) h is = absurd is
 below_variables k (member l d ms) [] h is = tt
 below_variables k (member l d ms) (x ∷ xs) h is = (ap (cmp k) is.0.0 ∙ h.0, below_variables k ms xs h.1 is.1)
 
-pub variables_rise : (ms : Members) (xs : List Variable) → MembersAreOrderly ms → AllZip IsVariable (pairs_of ms) xs → Rises xs
+pub variables_rise : (ms : Members) (xs : List Variable) → MembersAreOrderly ms → AllZip IsVariable (pairs_of ms) xs → HaveRisingNames xs
 variables_rise no_members [] h is = tt
 variables_rise no_members (x ∷ xs) h is = absurd is
 variables_rise (member l d ms) [] h is = tt
@@ -192,12 +193,12 @@ absent_before n y ys e h = absent n n (y ∷ ys) (tied_itself nat_list_cmp_total
 no_value : (n : List ℕ) (v : List ℕ) (xs ys : List Variable) → find_in n xs ≡ Some v → find_in n ys ≡ None → find_in n xs ≡ find_in n ys → ⊥
 no_value n v xs ys a b e = none-some v (sym b ∙ sym e ∙ a)
 
-first_names : (x y : Variable) (xs ys : List Variable) (o : Ordering) → cmp x.0 y.0 ≡ o → Rises (x ∷ xs) → Rises (y ∷ ys) →
+first_names : (x y : Variable) (xs ys : List Variable) (o : Ordering) → cmp x.0 y.0 ≡ o → HaveRisingNames (x ∷ xs) → HaveRisingNames (y ∷ ys) →
     ((n : List ℕ) → find_in n (x ∷ xs) ≡ find_in n (y ∷ ys)) → x.0 ≡ y.0
 first_names x y xs ys Less is h k same = absurd (no_value x.0 x.1 (x ∷ xs) (y ∷ ys) (here x xs) (absent_before x.0 y ys is k.0) (same x.0))
 first_names x y xs ys Equal is h k same = exact_bytes x.0 y.0 is
 first_names x y xs ys Greater is h k same =
-    absurd (no_value y.0 y.1 (y ∷ ys) (x ∷ xs) (here y ys) (absent_before y.0 x xs (turned x.0 y.0 is) h.0) (sym (same y.0)))
+    absurd (no_value y.0 y.1 (y ∷ ys) (x ∷ xs) (here y ys) (absent_before y.0 x xs (swapped x.0 y.0 is) h.0) (sym (same y.0)))
 
 abbrev named : List ℕ → List ℕ → Variable
 named n v = (n, v)
@@ -208,7 +209,7 @@ later_values n k a b xs ys Less is h j same = same
 later_values n k a b xs ys Equal is h j same = absent n k xs is h ∙ sym (absent n k ys is j)
 later_values n k a b xs ys Greater is h j same = same
 
-rising_one : (xs ys : List Variable) → Rises xs → Rises ys → ((n : List ℕ) → find_in n xs ≡ find_in n ys) → xs ≡ ys
+rising_one : (xs ys : List Variable) → HaveRisingNames xs → HaveRisingNames ys → ((n : List ℕ) → find_in n xs ≡ find_in n ys) → xs ≡ ys
 rising_one [] [] h k same = refl
 rising_one [] (y ∷ ys) h k same = absurd (no_value y.0 y.1 (y ∷ ys) [] (here y ys) refl (sym (same y.0)))
 rising_one (x ∷ xs) [] h k same = absurd (no_value x.0 x.1 (x ∷ xs) [] (here x xs) refl (same x.0))

@@ -9,7 +9,7 @@ use Rattle.std.specs.Str.{NoCharPasses}
 use Rattle.std.specs.Str.Pattern.{HasCharAt}
 use Rattle.std.proofs.lemmas.Str.Pattern.{NoCharPasses-char}
 use Rattle.serde_json.specs.Data.{Data}
-use Rattle.nuc_base.specs.Tables.{Table, AllHold, IsFirst, Faults, Answers}
+use Rattle.nuc_base.specs.Tables.{Table, AllHold, IsFirst, IsFaultBy, AnswerBy}
 use Rattle.nuc_base.specs.declared.artifact.Artifact.{Artifact}
 use Rattle.nuc_base.proofs.Tables.{first_after, fault_along, fault_before, all_both}
 use Rattle.tree_core.specs.Parts.{check}
@@ -37,7 +37,7 @@ abbrev pub next_lines : List Artifact → Data → Table RecipeFault
 next_lines done v = artifact_lines v ++ check (has_name (files done) (file_at v) ≡ false) DuplicateArtifact
 
 module _ (all : List Data) (v : Data) (rest : List Data) (done : List Artifact) (l : Lists all (v ∷ rest) done) where
-  pub lists_fault : (f : RecipeFault) → Faults NoMemory (next_lines done v) f → Faults NoMemory (listed_lines [] all) f
+  pub lists_fault : (f : RecipeFault) → IsFaultBy NoMemory (next_lines done v) f → IsFaultBy NoMemory (listed_lines [] all) f
   lists_fault f h = fault_along NoMemory (listed_lines (files done) (v ∷ rest)) (listed_lines [] all) f l.faults
       (fault_before NoMemory (next_lines done v) (listed_lines (files done ++ file_at v ∷ []) rest) f h)
 
@@ -60,7 +60,7 @@ lists_end all done l = (l.holds tt, subst (λ zs. AllZip IsArtifact all zs) (app
 -- ---- a URI
 
 pub uri_file : (s file : List ℕ) (r : Result (List ℕ) RecipeFault) → has_scheme s ≡ true → list_any is_slash s ≡ true → file ≡ file_in s
-    → Answers NoMemory (check (IsFileName file) UnsupportedUri) (λ f. f ≡ file) r → Answers NoMemory (check (IsUri s) UnsupportedUri) (λ f. f ≡ file_in s) r
+    → AnswerBy NoMemory (check (IsFileName file) UnsupportedUri) (λ f. f ≡ file) r → AnswerBy NoMemory (check (IsUri s) UnsupportedUri) (λ f. f ≡ file_in s) r
 uri_file s file (Ok f) scheme slash is h = ((record { scheme = scheme; slash = slash; file = subst IsFileName is h.0.0 }, tt), h.1 ∙ is)
 uri_file s file (Err f) scheme slash is (inl h) = inl h
 uri_file s file (Err f) scheme slash is (inr (inl h)) = inr (inl ((λ u. h.0 (subst IsFileName (sym is) u.file)), h.1))

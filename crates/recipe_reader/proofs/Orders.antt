@@ -63,11 +63,11 @@ less_is_before a b e = elim (less_parts (by_name a b) (by_version a b) e) [
   | inr h ↦ inr (same_names a b h.0, h.1)
 ]
 
-turned : (a b : Member) → member_order a b ≡ Greater → member_order b a ≡ Less
-turned a b e = member_total.antisymm b a ∙ ap ordering_reverse e
+swapped : (a b : Member) → member_order a b ≡ Greater → member_order b a ≡ Less
+swapped a b e = member_total.antisymm b a ∙ ap ordering_reverse e
 
 pub greater_is_after : (a b : Member) → member_order a b ≡ Greater → IsBefore b a
-greater_is_after a b e = less_is_before b a (turned a b e)
+greater_is_after a b e = less_is_before b a (swapped a b e)
 
 -- nothing is before one of the same name and version
 pub never_before : (a b : Member) → a.name ≡ b.name → a.version ≡ b.version → IsBefore a b → ⊥
@@ -104,13 +104,13 @@ pairs_rising (c ∷ cs) h i j d below within =
     subst (λ (m : Member). IsBefore m (get_or (members (c ∷ cs)) j d)) (sym e) (subst (λ (m : Member). IsBefore (member (get_or (c ∷ cs) i c)) m) (sym f)
     (h i j c below inside))
 
-turned_test : (a b : Member) → IsBefore a b → is_lt (member_order b a) ≡ false
-turned_test a b h = ap is_lt (member_total.antisymm b a ∙ ap ordering_reverse (before_is_less a b h))
+swapped_test : (a b : Member) → IsBefore a b → is_lt (member_order b a) ≡ false
+swapped_test a b h = ap is_lt (member_total.antisymm b a ∙ ap ordering_reverse (before_is_less a b h))
 
 -- a binary search for the place of a candidate may be made
 pub searchable : (cs : List Candidate) (c : Candidate) → IsRising (members cs) → IsNonDecreasingBy (λ d. ordering_index (member_order (member d) (member c))) cs
 searchable cs c rising = searchable_from_sorted member_total member cs (member c)
-    (λ k d low high. turned_test (member (get_or cs k d)) (member (get_or cs (k + 1) d)) (before_at cs k (k + 1) d rising (omega arith) high))
+    (λ k d low high. swapped_test (member (get_or cs k d)) (member (get_or cs (k + 1) d)) (before_at cs k (k + 1) d rising (omega arith) high))
 
 -- ---- one of each name and version
 

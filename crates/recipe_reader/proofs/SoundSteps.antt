@@ -26,7 +26,7 @@ use Rattle.recipe_reader.specs.declared.fault.Key.TheVariants as key
 use Rattle.recipe_reader.specs.declared.fault.RecipeFault.{RecipeFault}
 use Rattle.recipe_reader.specs.declared.fault.RecipeFault.TheVariants as fault
 
--- ---- of lines that all hold, those in front
+-- ---- of lines that all hold, those before
 
 pub hold_first : {Fault : Type 0} (above lines : Table Fault) → AllHold (above ++ lines) → AllHold above
 hold_first [] lines h = tt

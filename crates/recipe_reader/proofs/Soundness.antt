@@ -8,7 +8,7 @@ use Rattle.std.proofs.lemmas.Slice.Zip.{AllZip-long}
 use Rattle.serde_json.specs.Data.{Data, string, object, Members, no_members}
 use Rattle.serde_json.specs.Find.{get}
 use Rattle.nuc_base.specs.Names.{IsName}
-use Rattle.nuc_base.specs.Tables.{Table, AllHold, Answers, on}
+use Rattle.nuc_base.specs.Tables.{Table, AllHold, AnswerBy, on}
 use Rattle.nuc_base.specs.declared.artifact.Artifact.{Artifact}
 use Rattle.nuc_base.specs.declared.platform.Platform.{Platform}
 use Rattle.npm_ranges.specs.Versions.{IsVersion}
@@ -160,6 +160,6 @@ recipe_sound platform d r regular h is =
     }
 
 pub answers_sound : (platform : Platform) (d : Data) (result : Result Recipe RecipeFault) → IsRegular d →
-    Answers fault.NoMemory (recipe_lines platform d) (IsRecipe platform d) result → IfOk result IsSound
+    AnswerBy fault.NoMemory (recipe_lines platform d) (IsRecipe platform d) result → IfOk result IsSound
 answers_sound platform d (Err f) regular h = tt
 answers_sound platform d (Ok r) regular h = recipe_sound platform d r regular h.0 h.1

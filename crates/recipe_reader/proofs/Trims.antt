@@ -13,11 +13,11 @@ no_first s space tab x rest h e = elim (which x h) [
   | inr is ↦ tab rest (e ∙ ap (λ y. y ∷ rest) is)
 ]
 
-pub no_last : (s : List ℕ) → ((front : List ℕ) → s ≢ front ++ 32 ∷ []) → ((front : List ℕ) → s ≢ front ++ 9 ∷ []) → (x : ℕ) (front : List ℕ) →
-    is_blank x ≡ true → s ≢ front ++ x ∷ []
-no_last s space tab x front h e = elim (which x h) [
-  | inl is ↦ space front (e ∙ ap (λ y. front ++ y ∷ []) is)
-  | inr is ↦ tab front (e ∙ ap (λ y. front ++ y ∷ []) is)
+pub no_last : (s : List ℕ) → ((prefix : List ℕ) → s ≢ prefix ++ 32 ∷ []) → ((prefix : List ℕ) → s ≢ prefix ++ 9 ∷ []) → (x : ℕ) (prefix : List ℕ) →
+    is_blank x ≡ true → s ≢ prefix ++ x ∷ []
+no_last s space tab x prefix h e = elim (which x h) [
+  | inl is ↦ space prefix (e ∙ ap (λ y. prefix ++ y ∷ []) is)
+  | inr is ↦ tab prefix (e ∙ ap (λ y. prefix ++ y ∷ []) is)
 ]
 
 -- ---- at the beginning
@@ -35,18 +35,18 @@ start_end (x ∷ rest) h = start_at x rest (is_blank x) refl (λ e. h x rest e r
 
 -- ---- at the end
 
-pub end_step : (front : List ℕ) (x : ℕ) → is_blank x ≡ true → trim_end (front ++ x ∷ []) ≡ trim_end front
+pub end_step : (prefix : List ℕ) (x : ℕ) → is_blank x ≡ true → trim_end (prefix ++ x ∷ []) ≡ trim_end prefix
 end_step [] x h = ap (λ b. if b then [] else x ∷ []) h
-end_step (y ∷ front) x h = ap (before y) (end_step front x h)
+end_step (y ∷ prefix) x h = ap (before y) (end_step prefix x h)
 
 before_at : (x : ℕ) (b : Bool) → is_blank x ≡ b → (is_blank x ≡ true → ⊥) → (if b then [] else x ∷ []) ≡ x ∷ []
 before_at x true e h = absurd (h e)
 before_at x false e h = refl
 
-pub end_end : (s : List ℕ) → ((x : ℕ) (front : List ℕ) → is_blank x ≡ true → s ≢ front ++ x ∷ []) → trim_end s ≡ s
+pub end_end : (s : List ℕ) → ((x : ℕ) (prefix : List ℕ) → is_blank x ≡ true → s ≢ prefix ++ x ∷ []) → trim_end s ≡ s
 end_end [] h = refl
 end_end (x ∷ []) h = before_at x (is_blank x) refl (λ e. h x [] e refl)
-end_end (x ∷ y ∷ rest) h = ap (before x) (end_end (y ∷ rest) (λ z front e is. h z (x ∷ front) e (ap (λ l. x ∷ l) is)))
+end_end (x ∷ y ∷ rest) h = ap (before x) (end_end (y ∷ rest) (λ z prefix e is. h z (x ∷ prefix) e (ap (λ l. x ∷ l) is)))
 
 -- ---- either blank stripped
 
@@ -56,8 +56,9 @@ pub start_either : (s : List ℕ) (r : Option (Bor (List ℕ))) → ((rest : Lis
 start_either s None space h = no_first s space h
 start_either s (Some x) space h = (9, refl, h)
 
-pub end_either : (s : List ℕ) (r : Option (Bor (List ℕ))) → ((front : List ℕ) → s ≢ front ++ 32 ∷ []) →
-    MatchOption r ((front : List ℕ) → s ≢ front ++ 9 ∷ []) (λ x. s ≡ x.now ++ 9 ∷ [])
-    → MatchOption r ((x : ℕ) (front : List ℕ) → is_blank x ≡ true → s ≢ front ++ x ∷ []) (λ front. (x : ℕ) × (is_blank x ≡ true) × (s ≡ front.now ++ x ∷ []))
+pub end_either : (s : List ℕ) (r : Option (Bor (List ℕ))) → ((prefix : List ℕ) → s ≢ prefix ++ 32 ∷ []) →
+    MatchOption r ((prefix : List ℕ) → s ≢ prefix ++ 9 ∷ []) (λ x. s ≡ x.now ++ 9 ∷ [])
+    → MatchOption r ((x : ℕ) (prefix : List ℕ) → is_blank x ≡ true → s ≢ prefix ++ x ∷ [])
+    (λ prefix. (x : ℕ) × (is_blank x ≡ true) × (s ≡ prefix.now ++ x ∷ []))
 end_either s None space h = no_last s space h
 end_either s (Some x) space h = (9, refl, h)

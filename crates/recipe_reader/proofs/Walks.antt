@@ -2,7 +2,7 @@
 use Rattle.std.proofs.Common.{◌≡◌, ◌≢◌, length, map, true, false, List, [], ◌∷◌, ◌++◌, inl, inr, Some, None, refl, rules, sym, subst, ap, ◌∙◌}
 use Rattle.std.specs.Prelude.{if◌then◌else◌, IsSome}
 use Rattle.serde_json.specs.Data.{Data}
-use Rattle.nuc_base.specs.Tables.{Table, AllHold, IsFirst, Faults}
+use Rattle.nuc_base.specs.Tables.{Table, AllHold, IsFirst, IsFaultBy}
 use Rattle.tree_core.specs.View.{view}
 use Rattle.tree_core.specs.declared.tree.Tree.{Tree}
 use Rattle.tree_core.specs.Parts.{check}
@@ -32,7 +32,7 @@ module _ (platform : Platform) (all : List Data) where
       found = w.found ∙ ap (λ b. if b then Some m else chosen platform rest) other;
     }
 
-    pub walks_fault : (f : RecipeFault) → Faults NoMemory (manifest_lines m) f → Faults NoMemory (walk_lines platform all) f
+    pub walks_fault : (f : RecipeFault) → IsFaultBy NoMemory (manifest_lines m) f → IsFaultBy NoMemory (walk_lines platform all) f
     walks_fault f h = fault_along NoMemory (walk_lines platform (m ∷ rest)) (walk_lines platform all) f w.faults
         (fault_before NoMemory (manifest_lines m) (unless (matches platform m) (walk_lines platform rest)) f h)
 
@@ -66,10 +66,10 @@ module _ (platform : Platform) (ms : List Data) where
   missing is some (inr h) = let none : IsSome {T = Data} None = subst IsSome (sym is) h in cc
 
   pub choice_missing : AllHold (walk_lines platform ms) → None ≡ chosen platform ms → (ms ≡ [] → ⊥) →
-      Faults NoMemory (walk_lines platform ms ++ choices) NoManifest
+      IsFaultBy NoMemory (walk_lines platform ms ++ choices) NoManifest
   choice_missing holds is some = fault_after NoMemory (walk_lines platform ms) choices NoManifest holds (inr (inl (missing is some, refl)))
 
-  pub choice_fault : (f : RecipeFault) → Faults NoMemory (walk_lines platform ms) f → Faults NoMemory (walk_lines platform ms ++ choices) f
+  pub choice_fault : (f : RecipeFault) → IsFaultBy NoMemory (walk_lines platform ms) f → IsFaultBy NoMemory (walk_lines platform ms ++ choices) f
   choice_fault f h = fault_before NoMemory (walk_lines platform ms) choices f h
 
 pub some_tree : (ts : List Tree) → length ts ≢ 0 → map view ts ≡ [] → ⊥

@@ -3,7 +3,7 @@ use Rattle.std.specs.Prelude.{◌≡◌, ℕ, Bool, false, List, Option, Some, N
 use Rattle.serde_json.specs.Data.{Data}
 use Rattle.serde_json.specs.Read.{read}
 use Rattle.nuc_base.specs.declared.platform.Platform.{Platform}
-use Rattle.recipe_reader.specs.OneRecipe.{Reads}
+use Rattle.recipe_reader.specs.OneRecipe.{IsRecipeFor}
 use Rattle.recipe_reader.specs.Recipes.{back_in}
 use Rattle.recipe_reader.specs.declared.recipe.Recipe.{Recipe}
 
@@ -18,4 +18,4 @@ is_back platform bytes = back_read platform (read bytes)
 
 -- for bytes that are a recipe, what the recipe says
 abbrev pub IsBack : Type 0
-IsBack = (bytes : List ℕ) (platform : Platform) (r : Recipe) → Reads bytes platform r → r.boot_back ≡ is_back platform bytes
+IsBack = (bytes : List ℕ) (platform : Platform) (r : Recipe) → IsRecipeFor bytes platform r → r.boot_back ≡ is_back platform bytes

@@ -65,14 +65,14 @@ pub record IsAlike (c d : Candidate) : Type 0 where
   pub version : c.recipe.version ≡ d.recipe.version
 
 -- one of them has that name and version, and other bytes
-pub record Clashes (cs : List Candidate) (c : Candidate) : Type 0 where
+pub record HasClash (cs : List Candidate) (c : Candidate) : Type 0 where
   pub with : Candidate
   pub there : Contains cs with
   pub alike : IsAlike with c
   pub differs : with.bytes ≢ c.bytes
 
 -- one of them has that name and version, and the same bytes
-pub record Stands (cs : List Candidate) (c : Candidate) : Type 0 where
+pub record HasSameCandidate (cs : List Candidate) (c : Candidate) : Type 0 where
   pub as_one : Candidate
   pub there : Contains cs as_one
   pub alike : IsAlike as_one c
@@ -88,4 +88,4 @@ pub record IsPutIn (cs : List Candidate) (c : Candidate) (more : List Candidate)
 
 -- what adding makes of them
 abbrev pub IsAdded : List Candidate → Candidate → List Candidate → Type 0
-IsAdded cs c more = (Stands cs c × (more ≡ cs)) ⊎ IsPutIn cs c more
+IsAdded cs c more = (HasSameCandidate cs c × (more ≡ cs)) ⊎ IsPutIn cs c more

@@ -57,9 +57,9 @@ abbrev pub IsBelow : List ℕ → List Variable → Type 0
 IsBelow n [] = ⊤
 IsBelow n (x ∷ xs) = (slice_cmp nat_cmp n x.0 ≡ Less) × IsBelow n xs
 
-abbrev pub Rises : List Variable → Type 0
-Rises [] = ⊤
-Rises (x ∷ xs) = IsBelow x.0 xs × Rises xs
+abbrev pub HaveRisingNames : List Variable → Type 0
+HaveRisingNames [] = ⊤
+HaveRisingNames (x ∷ xs) = IsBelow x.0 xs × HaveRisingNames xs
 
 -- the value of a name
 abbrev pub find_in : List ℕ → List Variable → Option (List ℕ)
@@ -68,5 +68,5 @@ find_in n (x ∷ xs) = match_ordering (slice_cmp nat_cmp n x.0) (find_in n xs) (
 
 -- the variables of both in name order, where both name one the own one
 pub record IsJoined (own outer joined : List Variable) : Type 0 where
-  pub rises : Rises joined
+  pub rises : HaveRisingNames joined
   pub values : (n : List ℕ) → find_in n joined ≡ option_or (find_in n own) (find_in n outer)

@@ -4,5 +4,5 @@ use Rattle.serde_json.specs.Data.{Data}
 use Rattle.tree_core.specs.Regular.{IsRegular}
 
 -- it is seen as the value, and is regular
-abbrev pub Finds : {A : Type 0} → (A → Data) → Option Data → Option A → Type 0
-Finds see found o = (option_map see o ≡ found) × IfSome o (λ t. IsRegular (see t))
+abbrev pub IsSeenAs : {A : Type 0} → (A → Data) → Option Data → Option A → Type 0
+IsSeenAs see found o = (option_map see o ≡ found) × IfSome o (λ t. IsRegular (see t))

@@ -10,8 +10,8 @@ use Rattle.recipe_reader.specs.declared.fault.RecipeFault.{RecipeFault}
 use Rattle.recipe_reader.specs.declared.fault.RecipeFault.TheVariants.{NoMemory}
 
 -- the bytes are a recipe, which says this for the platform
-abbrev pub Reads : List ℕ → Platform → Recipe → Type 0
-Reads bytes platform recipe = ReadsRecipe bytes platform (Ok recipe)
+abbrev pub IsRecipeFor : List ℕ → Platform → Recipe → Type 0
+IsRecipeFor bytes platform recipe = ReadsRecipe bytes platform (Ok recipe)
 
 -- one recipe: two trees of one value count as one default configuration
 pub record AreAlike (r s : Recipe) : Type 0 where
@@ -25,7 +25,7 @@ pub record AreAlike (r s : Recipe) : Type 0 where
 
 -- bytes are one recipe at most for a platform
 abbrev pub IsOneRecipe : Type 0
-IsOneRecipe = (bytes : List ℕ) (platform : Platform) (r s : Recipe) → Reads bytes platform r → Reads bytes platform s → AreAlike r s
+IsOneRecipe = (bytes : List ℕ) (platform : Platform) (r s : Recipe) → IsRecipeFor bytes platform r → IsRecipeFor bytes platform s → AreAlike r s
 
 -- bytes have one fault at most for a platform
 abbrev pub IsOneFault : Type 0
@@ -33,4 +33,5 @@ IsOneFault = (bytes : List ℕ) (platform : Platform) (f g : RecipeFault) → Is
 
 -- what is a recipe has no fault
 abbrev pub HasNoFault : Type 0
-HasNoFault = (bytes : List ℕ) (platform : Platform) (r : Recipe) (f : RecipeFault) → Reads bytes platform r → ReadsRecipe bytes platform (Err f) → f ≡ NoMemory
+HasNoFault = (bytes : List ℕ) (platform : Platform) (r : Recipe) (f : RecipeFault) → IsRecipeFor bytes platform r → ReadsRecipe bytes platform (Err f)
+    → f ≡ NoMemory

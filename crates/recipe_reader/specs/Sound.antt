@@ -14,7 +14,7 @@ use Rattle.npm_ranges.specs.Versions.{IsVersion}
 use Rattle.tree_core.specs.Parts.{IsObject}
 use Rattle.tree_core.specs.Regular.{IsRegular}
 use Rattle.tree_core.specs.View.{view}
-use Rattle.recipe_reader.specs.OneRecipe.{Reads}
+use Rattle.recipe_reader.specs.OneRecipe.{IsRecipeFor}
 use Rattle.recipe_reader.specs.Steps.{step_of}
 use Rattle.recipe_reader.specs.declared.recipe.Dependency.{Dependency}
 use Rattle.recipe_reader.specs.declared.recipe.Recipe.{Recipe}
@@ -51,4 +51,4 @@ pub record IsSound (recipe : Recipe) : Type 0 where
 
 -- what bytes say for a platform is sound
 abbrev pub ReadsSound : Type 0
-ReadsSound = (bytes : List ℕ) (platform : Platform) (r : Recipe) → Reads bytes platform r → IsSound r
+ReadsSound = (bytes : List ℕ) (platform : Platform) (r : Recipe) → IsRecipeFor bytes platform r → IsSound r

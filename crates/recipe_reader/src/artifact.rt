@@ -3,7 +3,7 @@ ghost use Rattle.std.specs.Prelude.{◌≡◌, ◌++◌, [], Some, false, map, �
 ghost use Rattle.std.specs.List.{AllZip, starts_with};
 ghost use Rattle.serde_json.specs.Data.{array};
 ghost use Rattle.serde_json.specs.Find.{get as member_of};
-ghost use Rattle.nuc_base.specs.Tables.{Answers, on};
+ghost use Rattle.nuc_base.specs.Tables.{AnswerBy, on};
 ghost use Rattle.tree_core.specs.View.{view, items_view};
 ghost use Rattle.tree_core.specs.Regular.{IsRegular};
 ghost use Rattle.tree_core.specs.Parts.{present, check, values, optional as is_optional};
@@ -45,7 +45,7 @@ fn begins(text: &str, word: &str) -> bool
 
 /// Reads the name of a file, which is one part of a path.
 fn file_named(alloc: Global, file: &str) -> Result<Label, RecipeFault>
-    ensures { Answers OutOfMemory (check (IsFileName file.now) UnsupportedUri) (λ f. f ≡ file.now) result }
+    ensures { AnswerBy OutOfMemory (check (IsFileName file.now) UnsupportedUri) (λ f. f ≡ file.now) result }
 {
     if file.len() > MOST_NAME_BYTES {
         return Err(RecipeFault::UnsupportedUri);
@@ -65,7 +65,7 @@ fn file_named(alloc: Global, file: &str) -> Result<Label, RecipeFault>
 
 /// The name of the file that a URI names.
 fn file_of(alloc: Global, uri: &str) -> Result<Label, RecipeFault>
-    ensures { Answers OutOfMemory (check (IsUri uri.now) UnsupportedUri) (λ f. f ≡ file_in uri.now) result }
+    ensures { AnswerBy OutOfMemory (check (IsUri uri.now) UnsupportedUri) (λ f. f ≡ file_in uri.now) result }
 {
     if !has_scheme(uri) {
         return Err(RecipeFault::UnsupportedUri);
@@ -77,7 +77,7 @@ fn file_of(alloc: Global, uri: &str) -> Result<Label, RecipeFault>
 }
 
 fn file_from(alloc: Global, uri: &Tree) -> Result<Label, RecipeFault>
-    ensures { Answers OutOfMemory (uri_lines (view uri.now)) (λ f. f ≡ file_text (Some (view uri.now))) result }
+    ensures { AnswerBy OutOfMemory (uri_lines (view uri.now)) (λ f. f ≡ file_text (Some (view uri.now))) result }
 {
     let Tree::Text(text) = uri else {
         return Err(RecipeFault::WrongKind(Key::Uri));
@@ -87,7 +87,7 @@ fn file_from(alloc: Global, uri: &Tree) -> Result<Label, RecipeFault>
 
 fn file_at(alloc: Global, artifact: &Tree) -> Result<Label, RecipeFault>
     requires { IsRegular (view artifact.now) }
-    ensures { Answers OutOfMemory
+    ensures { AnswerBy OutOfMemory
         (required_key key.Uri (view artifact.now) uri_lines)
         (λ f. f ≡ file_name_at (view artifact.now))
         result }
@@ -99,7 +99,7 @@ fn file_at(alloc: Global, artifact: &Tree) -> Result<Label, RecipeFault>
 }
 
 fn unarchive_in(value: &Tree) -> Result<(), RecipeFault>
-    ensures { Answers OutOfMemory (unarchive_lines (view value.now)) (λ _. ⊤) result }
+    ensures { AnswerBy OutOfMemory (unarchive_lines (view value.now)) (λ _. ⊤) result }
 {
     let Tree::Text(word) = value else {
         return Err(RecipeFault::WrongKind(Key::Unarchive));
@@ -116,7 +116,7 @@ fn unarchive_in(value: &Tree) -> Result<(), RecipeFault>
 /// An artifact that is to be unpacked is refused.
 fn check_unarchive(artifact: &Tree) -> Result<(), RecipeFault>
     requires { IsRegular (view artifact.now) }
-    ensures { Answers OutOfMemory (on (keyed_of (spelled key.Unarchive) (view artifact.now)) unarchive_lines) (λ _. ⊤) result }
+    ensures { AnswerBy OutOfMemory (on (keyed_of (spelled key.Unarchive) (view artifact.now)) unarchive_lines) (λ _. ⊤) result }
 {
     match keyed(artifact, Key::Unarchive) {
         Some(value) => unarchive_in(value),
@@ -125,7 +125,7 @@ fn check_unarchive(artifact: &Tree) -> Result<(), RecipeFault>
 }
 
 fn algorithm_in(value: &Tree) -> Result<(), RecipeFault>
-    ensures { Answers OutOfMemory (algorithm_lines (view value.now)) (λ _. ⊤) result }
+    ensures { AnswerBy OutOfMemory (algorithm_lines (view value.now)) (λ _. ⊤) result }
 {
     let Tree::Text(word) = value else {
         return Err(RecipeFault::BadDigest);
@@ -139,7 +139,7 @@ fn algorithm_in(value: &Tree) -> Result<(), RecipeFault>
 
 fn check_algorithm(artifact: &Tree) -> Result<(), RecipeFault>
     requires { IsRegular (view artifact.now) }
-    ensures { Answers OutOfMemory (on (keyed_of (spelled key.Algorithm) (view artifact.now)) algorithm_lines) (λ _. ⊤) result }
+    ensures { AnswerBy OutOfMemory (on (keyed_of (spelled key.Algorithm) (view artifact.now)) algorithm_lines) (λ _. ⊤) result }
 {
     match keyed(artifact, Key::Algorithm) {
         Some(value) => algorithm_in(value),
@@ -148,7 +148,7 @@ fn check_algorithm(artifact: &Tree) -> Result<(), RecipeFault>
 }
 
 fn no_doubles(artifact: &Tree) -> Result<(), RecipeFault>
-    ensures { Answers OutOfMemory (artifact_doubles (view artifact.now)) (λ _. ⊤) result }
+    ensures { AnswerBy OutOfMemory (artifact_doubles (view artifact.now)) (λ _. ⊤) result }
 {
     if is_doubled(artifact, Key::Uri) {
         return Err(RecipeFault::DuplicateKey(Key::Uri));
@@ -167,7 +167,7 @@ fn no_doubles(artifact: &Tree) -> Result<(), RecipeFault>
 
 fn artifact_of(alloc: Global, artifact: &Tree) -> Result<Artifact, RecipeFault>
     requires { IsRegular (view artifact.now) }
-    ensures { Answers OutOfMemory (artifact_lines (view artifact.now)) (IsArtifact (view artifact.now)) result }
+    ensures { AnswerBy OutOfMemory (artifact_lines (view artifact.now)) (IsArtifact (view artifact.now)) result }
 {
     if !artifact.is_object() {
         return Err(RecipeFault::WrongKind(Key::Artifacts));
@@ -195,7 +195,7 @@ fn has_name(artifacts: &[Artifact], file: &Label) -> bool
 /// One artifact more, whose file name no earlier one has.
 fn next_artifact(alloc: Global, earlier: &[Artifact], value: &Tree) -> Result<Artifact, RecipeFault>
     requires { IsRegular (view value.now) }
-    ensures { Answers OutOfMemory
+    ensures { AnswerBy OutOfMemory
         (artifact_lines (view value.now) ++ check (is_name_among (map (λ a. a.file) earlier.now) (file_name_at (view value.now)) ≡ false) DuplicateArtifact)
         (IsArtifact (view value.now))
         result }
@@ -209,7 +209,7 @@ fn next_artifact(alloc: Global, earlier: &[Artifact], value: &Tree) -> Result<Ar
 
 fn artifacts_among(alloc: Global, values: &Vec<Tree>) -> Result<List<Artifact>, RecipeFault>
     requires { IsRegular (array (items_view values.now.items)) }
-    ensures { Answers OutOfMemory
+    ensures { AnswerBy OutOfMemory
         (listed_lines [] (map view values.now.items))
         (AllZip IsArtifact (map view values.now.items))
         result }
@@ -224,7 +224,7 @@ fn artifacts_among(alloc: Global, values: &Vec<Tree>) -> Result<List<Artifact>, 
 
 fn artifacts_in(alloc: Global, value: &Tree) -> Result<List<Artifact>, RecipeFault>
     requires { IsRegular (view value.now) }
-    ensures { Answers OutOfMemory (artifacts_lines (view value.now)) (AllZip IsArtifact (values (view value.now))) result }
+    ensures { AnswerBy OutOfMemory (artifacts_lines (view value.now)) (AllZip IsArtifact (values (view value.now))) result }
 {
     let Tree::Items(items) = value else {
         return Err(RecipeFault::WrongKind(Key::Artifacts));
@@ -238,7 +238,7 @@ fn artifacts_in(alloc: Global, value: &Tree) -> Result<List<Artifact>, RecipeFau
 /// The artifacts of a manifest.
 pub fn artifacts_of(alloc: Global, manifest: &Tree) -> Result<List<Artifact>, RecipeFault>
     requires { IsRegular (view manifest.now) }
-    ensures { Answers OutOfMemory
+    ensures { AnswerBy OutOfMemory
         (is_optional (spelled key.Artifacts) (view manifest.now) artifacts_lines)
         (AreArtifacts (present (member_of (spelled key.Artifacts) (view manifest.now))))
         result }

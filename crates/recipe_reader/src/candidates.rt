@@ -2,7 +2,7 @@
 ghost use Rattle.std.specs.Prelude.{◌≡◌, ◌≢◌, ◌↔◌, IsTrue, ◌<◌, ◌≤◌, ◌+◌, ◌-◌, ◌^◌, ◌∷◌, [], length, map, IfOk, OnOk, IfErr, OnErr, MatchResult};
 ghost use Rattle.std.specs.List.{AllWithin, HoldsAt, insert};
 ghost use Rattle.recipe_reader.specs.Members.{member, members, IsBefore, IsRising};
-ghost use Rattle.recipe_reader.specs.Candidates.{IsRead, AreCandidates, IsNucleus, IsAlike, Clashes, IsAdded, member_order};
+ghost use Rattle.recipe_reader.specs.Candidates.{IsRead, AreCandidates, IsNucleus, IsAlike, HasClash, IsAdded, member_order};
 
 use crate::candidate::Candidate;
 use crate::nucleus::nucleus_of;
@@ -149,7 +149,7 @@ impl Candidates {
         requires read { IsRead candidate }
         requires room { length self.old < 2 ^ 32 - 1 }
         ensures added { OnOk result (IsAdded self.old candidate self.new) }
-        ensures agrees { OnOk result (Clashes self.old candidate → ⊥) }
+        ensures agrees { OnOk result (HasClash self.old candidate → ⊥) }
         ensures refused { IfErr result (IsRefused self.old candidate) }
         ensures unchanged { OnErr result (self.new ≡ self.old) }
         ensures rule { AreCandidates self.new }

@@ -1,7 +1,7 @@
 // The default configuration of a component.
 ghost use Rattle.std.specs.Prelude.{◌≡◌, Some, None};
 ghost use Rattle.serde_json.specs.Find.{get as member_of};
-ghost use Rattle.nuc_base.specs.Tables.{Answers};
+ghost use Rattle.nuc_base.specs.Tables.{AnswerBy};
 ghost use Rattle.tree_core.specs.View.{view};
 ghost use Rattle.tree_core.specs.Regular.{IsRegular};
 ghost use Rattle.tree_core.specs.Parts.{present, optional as is_optional};
@@ -25,7 +25,7 @@ fn empty_object(alloc: Global) -> Tree
 
 fn object_in(alloc: Global, value: &Tree) -> Result<Tree, RecipeFault>
     requires { IsRegular (view value.now) }
-    ensures { Answers OutOfMemory
+    ensures { AnswerBy OutOfMemory
         (object_lines key.DefaultConfiguration (view value.now))
         (λ t. IsDefault (Some (view value.now)) (view t) × IsRegular (view t))
         result }
@@ -38,7 +38,7 @@ fn object_in(alloc: Global, value: &Tree) -> Result<Tree, RecipeFault>
 
 fn config_in(alloc: Global, value: &Tree) -> Result<Tree, RecipeFault>
     requires { IsRegular (view value.now) }
-    ensures { Answers OutOfMemory
+    ensures { AnswerBy OutOfMemory
         (config_lines (view value.now))
         (λ t. IsDefault (inner key.DefaultConfiguration (Some (view value.now))) (view t) × IsRegular (view t))
         result }
@@ -55,7 +55,7 @@ fn config_in(alloc: Global, value: &Tree) -> Result<Tree, RecipeFault>
 /// The default configuration of a recipe, an object.
 pub fn default_of(alloc: Global, recipe: &Tree) -> Result<Tree, RecipeFault>
     requires { IsRegular (view recipe.now) }
-    ensures { Answers OutOfMemory
+    ensures { AnswerBy OutOfMemory
         (is_optional (spelled key.ComponentConfiguration) (view recipe.now) config_lines)
         (λ t. IsDefault (inner key.DefaultConfiguration (present (member_of (spelled key.ComponentConfiguration) (view recipe.now)))) (view t)
         × IsRegular (view t))

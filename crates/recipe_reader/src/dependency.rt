@@ -3,7 +3,7 @@ ghost use Rattle.std.specs.Prelude.{◌≡◌, [], Some, None, map};
 ghost use Rattle.std.specs.List.{AllZip};
 ghost use Rattle.serde_json.specs.Data.{string};
 ghost use Rattle.serde_json.specs.Find.{get as member_of};
-ghost use Rattle.nuc_base.specs.Tables.{Answers, each};
+ghost use Rattle.nuc_base.specs.Tables.{AnswerBy, each};
 ghost use Rattle.tree_core.specs.View.{view, field_view};
 ghost use Rattle.tree_core.specs.Parts.{present, members, optional as is_optional};
 ghost use Rattle.recipe_reader.specs.Spelled.{spelled};
@@ -24,7 +24,7 @@ use tree_core::Tree;
 const MOST_DEPENDENCIES: usize = 64;
 
 fn range_in(alloc: Global, value: &Tree) -> Result<Range, RecipeFault>
-    ensures { Answers OutOfMemory (range_lines (view value.now)) (λ range. view value.now ≡ string range) result }
+    ensures { AnswerBy OutOfMemory (range_lines (view value.now)) (λ range. view value.now ≡ string range) result }
 {
     let Tree::Text(text) = value else {
         return Err(RecipeFault::WrongKind(Key::VersionRequirement));
@@ -39,7 +39,7 @@ fn range_in(alloc: Global, value: &Tree) -> Result<Range, RecipeFault>
 
 /// The range of all versions.
 fn any_range(alloc: Global) -> Result<Range, RecipeFault>
-    ensures { Answers OutOfMemory [] (IsRangeOf None) result }
+    ensures { AnswerBy OutOfMemory [] (IsRangeOf None) result }
 {
     spelled_comparators_are_read();
     match Range::read(alloc, b"*") {
@@ -51,7 +51,7 @@ fn any_range(alloc: Global) -> Result<Range, RecipeFault>
 }
 
 fn range_at(alloc: Global, dependency: &Tree) -> Result<Range, RecipeFault>
-    ensures { Answers OutOfMemory
+    ensures { AnswerBy OutOfMemory
         (is_optional (spelled key.VersionRequirement) (view dependency.now) range_lines)
         (IsRangeOf (present (member_of (spelled key.VersionRequirement) (view dependency.now))))
         result }
@@ -63,7 +63,7 @@ fn range_at(alloc: Global, dependency: &Tree) -> Result<Range, RecipeFault>
 }
 
 fn hard_in(value: &Tree) -> Result<bool, RecipeFault>
-    ensures { Answers OutOfMemory (kind_lines (view value.now)) (IsHard (Some (view value.now))) result }
+    ensures { AnswerBy OutOfMemory (kind_lines (view value.now)) (IsHard (Some (view value.now))) result }
 {
     let Tree::Text(word) = value else {
         return Err(RecipeFault::WrongKind(Key::DependencyType));
@@ -78,7 +78,7 @@ fn hard_in(value: &Tree) -> Result<bool, RecipeFault>
 }
 
 fn hard_at(dependency: &Tree) -> Result<bool, RecipeFault>
-    ensures { Answers OutOfMemory
+    ensures { AnswerBy OutOfMemory
         (is_optional (spelled key.DependencyType) (view dependency.now) kind_lines)
         (IsHard (present (member_of (spelled key.DependencyType) (view dependency.now))))
         result }
@@ -90,7 +90,7 @@ fn hard_at(dependency: &Tree) -> Result<bool, RecipeFault>
 }
 
 fn dependency_of(alloc: Global, name: &Text, value: &Tree) -> Result<Dependency, RecipeFault>
-    ensures { Answers OutOfMemory (dependency_lines (name.now, view value.now)) (IsDependency (name.now, view value.now)) result }
+    ensures { AnswerBy OutOfMemory (dependency_lines (name.now, view value.now)) (IsDependency (name.now, view value.now)) result }
 {
     let name = match Name::read(alloc, name.as_bytes()) {
         Ok(name) => name,
@@ -109,7 +109,7 @@ fn dependencies_among(
     alloc: Global,
     fields: &Vec<(Text, Tree)>,
 ) -> Result<List<Dependency>, RecipeFault>
-    ensures { Answers OutOfMemory
+    ensures { AnswerBy OutOfMemory
         (each dependency_lines (map field_view fields.now.items))
         (AllZip IsDependency (map field_view fields.now.items))
         result }
@@ -123,7 +123,7 @@ fn dependencies_among(
 }
 
 fn dependencies_in(alloc: Global, value: &Tree) -> Result<List<Dependency>, RecipeFault>
-    ensures { Answers OutOfMemory (dependencies_lines (view value.now)) (AllZip IsDependency (members (view value.now))) result }
+    ensures { AnswerBy OutOfMemory (dependencies_lines (view value.now)) (AllZip IsDependency (members (view value.now))) result }
 {
     let Tree::Fields(fields) = value else {
         return Err(RecipeFault::WrongKind(Key::ComponentDependencies));
@@ -136,7 +136,7 @@ fn dependencies_in(alloc: Global, value: &Tree) -> Result<List<Dependency>, Reci
 
 /// The dependencies of a recipe, in the order of their names.
 pub fn dependencies_of(alloc: Global, recipe: &Tree) -> Result<List<Dependency>, RecipeFault>
-    ensures { Answers OutOfMemory
+    ensures { AnswerBy OutOfMemory
         (is_optional (spelled key.ComponentDependencies) (view recipe.now) dependencies_lines)
         (AreDependencies (present (member_of (spelled key.ComponentDependencies) (view recipe.now))))
         result }

@@ -1,6 +1,6 @@
 // The digest of an artifact, as a recipe writes it.
 ghost use Rattle.std.specs.Prelude.{◌≡◌, ◌≢◌, ℕ, List, length, MatchOption};
-ghost use Rattle.nuc_base.specs.Tables.{Answers, on};
+ghost use Rattle.nuc_base.specs.Tables.{AnswerBy, on};
 ghost use Rattle.tree_core.specs.View.{view};
 ghost use Rattle.tree_core.specs.Regular.{IsRegular};
 ghost use Rattle.tree_core.specs.Parts.{check, IsTextOf};
@@ -34,7 +34,7 @@ fn array_of(bytes: &[u8]) -> Option<[u8; 32]>
 
 /// The digest that is written in base64.
 fn from_base64(alloc: Global, text: &str) -> Result<[u8; 32], RecipeFault>
-    ensures { Answers OutOfMemory (check ((d : List ℕ) × IsBase64 text.now d) BadDigest) (IsBase64 text.now) result }
+    ensures { AnswerBy OutOfMemory (check ((d : List ℕ) × IsBase64 text.now d) BadDigest) (IsBase64 text.now) result }
 {
     match STANDARD.decode(alloc, text.as_bytes()) {
         Ok(bytes) => match array_of(bytes.as_slice()) {
@@ -47,7 +47,7 @@ fn from_base64(alloc: Global, text: &str) -> Result<[u8; 32], RecipeFault>
 }
 
 fn digest_of(alloc: Global, text: &str) -> Result<[u8; 32], RecipeFault>
-    ensures { Answers OutOfMemory (check ((d : List ℕ) × IsDigest text.now d) BadDigest) (IsDigest text.now) result }
+    ensures { AnswerBy OutOfMemory (check ((d : List ℕ) × IsDigest text.now d) BadDigest) (IsDigest text.now) result }
 {
     match <[u8; 32] as FromHex>::from_hex(text) {
         Ok(digest) => Ok(digest),
@@ -56,7 +56,7 @@ fn digest_of(alloc: Global, text: &str) -> Result<[u8; 32], RecipeFault>
 }
 
 fn digest_in(alloc: Global, value: &Tree) -> Result<[u8; 32], RecipeFault>
-    ensures { Answers OutOfMemory (digest_lines (view value.now)) (λ d. IsTextOf (λ s. IsDigest s d) (view value.now)) result }
+    ensures { AnswerBy OutOfMemory (digest_lines (view value.now)) (λ d. IsTextOf (λ s. IsDigest s d) (view value.now)) result }
 {
     let Tree::Text(text) = value else {
         return Err(RecipeFault::BadDigest);
@@ -67,7 +67,7 @@ fn digest_in(alloc: Global, value: &Tree) -> Result<[u8; 32], RecipeFault>
 /// The digest of an artifact, where it gives one.
 pub fn digest_at(alloc: Global, artifact: &Tree) -> Result<Option<[u8; 32]>, RecipeFault>
     requires { IsRegular (view artifact.now) }
-    ensures { Answers OutOfMemory
+    ensures { AnswerBy OutOfMemory
         (on (keyed_of (spelled key.Digest) (view artifact.now)) digest_lines)
         (IsDigestOf (keyed_of (spelled key.Digest) (view artifact.now)))
         result }

@@ -2,12 +2,12 @@
 ghost use Rattle.std.specs.Prelude.{◌≡◌, ◌||◌, ◌++◌, map, IfOk, OnOk};
 ghost use Rattle.std.specs.List.{AllZip};
 ghost use Rattle.serde_json.specs.Data.{object};
-ghost use Rattle.nuc_base.specs.Tables.{Answers, each, on};
+ghost use Rattle.nuc_base.specs.Tables.{AnswerBy, each, on};
 ghost use Rattle.tree_core.specs.View.{view, field_view, fields_view};
 ghost use Rattle.tree_core.specs.Regular.{IsRegular};
 ghost use Rattle.tree_core.specs.Parts.{members};
 ghost use Rattle.recipe_reader.specs.Environment.{variable_lines, environment_lines, IsVariable, has_equals as has_an_equals, is_empty as is_empty_text};
-ghost use Rattle.recipe_reader.specs.Environment.{Rises, AreVariables, IsJoined};
+ghost use Rattle.recipe_reader.specs.Environment.{HaveRisingNames, AreVariables, IsJoined};
 ghost use Rattle.recipe_reader.specs.Spelled.{spelled};
 ghost use Rattle.recipe_reader.specs.Keys.{keyed as keyed_of};
 ghost use Rattle.recipe_reader.specs.declared.fault.Key.TheVariants as key;
@@ -39,7 +39,7 @@ fn is_no_name(name: &str) -> bool
 
 fn variable_of(alloc: Global, name: &Text, value: &Tree) -> Result<(Text, Text), RecipeFault>
     requires { IsRegular (view value.now) }
-    ensures { Answers OutOfMemory (variable_lines (name.now, view value.now)) (IsVariable (name.now, view value.now)) result }
+    ensures { AnswerBy OutOfMemory (variable_lines (name.now, view value.now)) (IsVariable (name.now, view value.now)) result }
 {
     if is_no_name(name.as_str()) {
         return Err(RecipeFault::WrongKind(Key::Setenv));
@@ -57,7 +57,7 @@ fn variables_among(
     fields: &Vec<(Text, Tree)>,
 ) -> Result<List<(Text, Text)>, RecipeFault>
     requires { IsRegular (object (fields_view fields.now.items)) }
-    ensures { Answers OutOfMemory
+    ensures { AnswerBy OutOfMemory
         (each variable_lines (map field_view fields.now.items))
         (AllZip IsVariable (map field_view fields.now.items))
         result }
@@ -73,9 +73,9 @@ fn variables_among(
 /// The variables of an environment, in the order of their names.
 fn variables_in(alloc: Global, value: &Tree) -> Result<List<(Text, Text)>, RecipeFault>
     requires { IsRegular (view value.now) }
-    ensures { Answers OutOfMemory
+    ensures { AnswerBy OutOfMemory
         (environment_lines (view value.now))
-        (λ xs. AllZip IsVariable (members (view value.now)) xs × Rises xs)
+        (λ xs. AllZip IsVariable (members (view value.now)) xs × HaveRisingNames xs)
         result }
 {
     let Tree::Fields(fields) = value else {
@@ -87,9 +87,9 @@ fn variables_in(alloc: Global, value: &Tree) -> Result<List<(Text, Text)>, Recip
 /// The variables that an object sets, in the order of their names.
 pub fn variables_at(alloc: Global, object: &Tree) -> Result<List<(Text, Text)>, RecipeFault>
     requires { IsRegular (view object.now) }
-    ensures { Answers OutOfMemory
+    ensures { AnswerBy OutOfMemory
         (on (keyed_of (spelled key.Setenv) (view object.now)) environment_lines)
-        (λ xs. AreVariables (keyed_of (spelled key.Setenv) (view object.now)) xs × Rises xs)
+        (λ xs. AreVariables (keyed_of (spelled key.Setenv) (view object.now)) xs × HaveRisingNames xs)
         result }
 {
     match keyed(object, Key::Setenv) {
@@ -112,8 +112,8 @@ pub fn join(
     own: &[(Text, Text)],
     outer: &[(Text, Text)],
 ) -> Result<List<(Text, Text)>, NoMemory>
-    requires own_rises { Rises own.now }
-    requires outer_rises { Rises outer.now }
+    requires own_rises { HaveRisingNames own.now }
+    requires outer_rises { HaveRisingNames outer.now }
     ensures { IfOk result (λ joined. IsJoined own.now outer.now joined) }
 {
     let mut joined = Vec::new(alloc);

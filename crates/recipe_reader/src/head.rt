@@ -2,7 +2,7 @@
 ghost use Rattle.std.specs.Prelude.{◌≡◌, Some, ⊤};
 ghost use Rattle.serde_json.specs.Data.{string};
 ghost use Rattle.serde_json.specs.Find.{get as member_of};
-ghost use Rattle.nuc_base.specs.Tables.{Answers};
+ghost use Rattle.nuc_base.specs.Tables.{AnswerBy};
 ghost use Rattle.tree_core.specs.View.{view};
 ghost use Rattle.tree_core.specs.Parts.{optional as is_optional};
 ghost use Rattle.recipe_reader.specs.Spelled.{spelled};
@@ -25,7 +25,7 @@ pub struct Head {
 }
 
 fn format_in(value: &Tree) -> Result<(), RecipeFault>
-    ensures { Answers OutOfMemory (format_lines (view value.now)) (λ _. ⊤) result }
+    ensures { AnswerBy OutOfMemory (format_lines (view value.now)) (λ _. ⊤) result }
 {
     let Tree::Text(text) = value else {
         return Err(RecipeFault::WrongKind(Key::RecipeFormatVersion));
@@ -38,7 +38,7 @@ fn format_in(value: &Tree) -> Result<(), RecipeFault>
 }
 
 fn check_format(recipe: &Tree) -> Result<(), RecipeFault>
-    ensures { Answers OutOfMemory (needed key.RecipeFormatVersion (view recipe.now) format_lines) (λ _. ⊤) result }
+    ensures { AnswerBy OutOfMemory (needed key.RecipeFormatVersion (view recipe.now) format_lines) (λ _. ⊤) result }
 {
     match member(recipe, Key::RecipeFormatVersion) {
         Some(value) => format_in(value),
@@ -47,7 +47,7 @@ fn check_format(recipe: &Tree) -> Result<(), RecipeFault>
 }
 
 fn name_in(alloc: Global, value: &Tree) -> Result<Name, RecipeFault>
-    ensures { Answers OutOfMemory (name_lines (view value.now)) (λ name. view value.now ≡ string name) result }
+    ensures { AnswerBy OutOfMemory (name_lines (view value.now)) (λ name. view value.now ≡ string name) result }
 {
     let Tree::Text(text) = value else {
         return Err(RecipeFault::WrongKind(Key::ComponentName));
@@ -60,7 +60,7 @@ fn name_in(alloc: Global, value: &Tree) -> Result<Name, RecipeFault>
 }
 
 fn name_of(alloc: Global, recipe: &Tree) -> Result<Name, RecipeFault>
-    ensures { Answers OutOfMemory
+    ensures { AnswerBy OutOfMemory
         (needed key.ComponentName (view recipe.now) name_lines)
         (λ name. member_of (spelled key.ComponentName) (view recipe.now) ≡ Some (string name))
         result }
@@ -72,7 +72,7 @@ fn name_of(alloc: Global, recipe: &Tree) -> Result<Name, RecipeFault>
 }
 
 fn version_in(alloc: Global, value: &Tree) -> Result<Version, RecipeFault>
-    ensures { Answers OutOfMemory (version_lines (view value.now)) (λ version. view value.now ≡ string version) result }
+    ensures { AnswerBy OutOfMemory (version_lines (view value.now)) (λ version. view value.now ≡ string version) result }
 {
     let Tree::Text(text) = value else {
         return Err(RecipeFault::WrongKind(Key::ComponentVersion));
@@ -85,7 +85,7 @@ fn version_in(alloc: Global, value: &Tree) -> Result<Version, RecipeFault>
 }
 
 fn version_of(alloc: Global, recipe: &Tree) -> Result<Version, RecipeFault>
-    ensures { Answers OutOfMemory
+    ensures { AnswerBy OutOfMemory
         (needed key.ComponentVersion (view recipe.now) version_lines)
         (λ version. member_of (spelled key.ComponentVersion) (view recipe.now) ≡ Some (string version))
         result }
@@ -97,7 +97,7 @@ fn version_of(alloc: Global, recipe: &Tree) -> Result<Version, RecipeFault>
 }
 
 fn type_in(value: &Tree) -> Result<(), RecipeFault>
-    ensures { Answers OutOfMemory (type_lines (view value.now)) (λ _. ⊤) result }
+    ensures { AnswerBy OutOfMemory (type_lines (view value.now)) (λ _. ⊤) result }
 {
     let Tree::Text(text) = value else {
         return Err(RecipeFault::WrongKind(Key::ComponentType));
@@ -110,7 +110,7 @@ fn type_in(value: &Tree) -> Result<(), RecipeFault>
 }
 
 fn check_type(recipe: &Tree) -> Result<(), RecipeFault>
-    ensures { Answers OutOfMemory (is_optional (spelled key.ComponentType) (view recipe.now) type_lines) (λ _. ⊤) result }
+    ensures { AnswerBy OutOfMemory (is_optional (spelled key.ComponentType) (view recipe.now) type_lines) (λ _. ⊤) result }
 {
     match optional(recipe, Key::ComponentType) {
         Some(value) => type_in(value),
@@ -119,7 +119,7 @@ fn check_type(recipe: &Tree) -> Result<(), RecipeFault>
 }
 
 fn global_in(value: &Tree) -> Result<(), RecipeFault>
-    ensures { Answers OutOfMemory (global_lines (view value.now)) (λ _. ⊤) result }
+    ensures { AnswerBy OutOfMemory (global_lines (view value.now)) (λ _. ⊤) result }
 {
     match value {
         Tree::Fields(fields) => {
@@ -135,7 +135,7 @@ fn global_in(value: &Tree) -> Result<(), RecipeFault>
 
 /// A lifecycle outside of the manifests is refused, unless it is empty.
 fn check_global(recipe: &Tree) -> Result<(), RecipeFault>
-    ensures { Answers OutOfMemory (is_optional (spelled key.Lifecycle) (view recipe.now) global_lines) (λ _. ⊤) result }
+    ensures { AnswerBy OutOfMemory (is_optional (spelled key.Lifecycle) (view recipe.now) global_lines) (λ _. ⊤) result }
 {
     match optional(recipe, Key::Lifecycle) {
         Some(value) => global_in(value),
@@ -145,7 +145,7 @@ fn check_global(recipe: &Tree) -> Result<(), RecipeFault>
 
 /// What component a recipe is of, and that its form is one that is read.
 pub fn head_of(alloc: Global, recipe: &Tree) -> Result<Head, RecipeFault>
-    ensures { Answers OutOfMemory (head_lines (view recipe.now)) (IsHead (view recipe.now)) result }
+    ensures { AnswerBy OutOfMemory (head_lines (view recipe.now)) (IsHead (view recipe.now)) result }
 {
     if !recipe.is_object() {
         return Err(RecipeFault::WrongKind(Key::Recipe));

@@ -1,12 +1,12 @@
 // The lifecycle of a manifest.
 ghost use Rattle.std.specs.Prelude.{◌≡◌, ◌↔◌, IsTrue, ⊤, Some, None};
 ghost use Rattle.serde_json.specs.Find.{get as member_of};
-ghost use Rattle.nuc_base.specs.Tables.{Answers, on};
+ghost use Rattle.nuc_base.specs.Tables.{AnswerBy, on};
 ghost use Rattle.tree_core.specs.View.{view};
 ghost use Rattle.tree_core.specs.Regular.{IsRegular};
 ghost use Rattle.tree_core.specs.Parts.{present, optional as is_optional};
 ghost use Rattle.recipe_reader.specs.Spelled.{spelled};
-ghost use Rattle.recipe_reader.specs.Environment.{Rises};
+ghost use Rattle.recipe_reader.specs.Environment.{HaveRisingNames};
 ghost use Rattle.recipe_reader.specs.Lifecycles.{first_doubles, last_doubles, keys_lines, first_steps as first_lines, last_steps as last_lines};
 ghost use Rattle.recipe_reader.specs.Lifecycles.{lifecycle_lines, HasBoth, AreSteps};
 ghost use Rattle.recipe_reader.specs.Made.{AreFirst, AreLast, made_step};
@@ -45,7 +45,7 @@ pub struct Steps {
 }
 
 fn no_first_doubles(lifecycle: &Tree) -> Result<(), RecipeFault>
-    ensures { Answers OutOfMemory (first_doubles (view lifecycle.now)) (λ _. ⊤) result }
+    ensures { AnswerBy OutOfMemory (first_doubles (view lifecycle.now)) (λ _. ⊤) result }
 {
     if is_doubled(lifecycle, Key::Setenv) {
         return Err(RecipeFault::DuplicateKey(Key::Setenv));
@@ -63,7 +63,7 @@ fn no_first_doubles(lifecycle: &Tree) -> Result<(), RecipeFault>
 }
 
 fn no_last_doubles(lifecycle: &Tree) -> Result<(), RecipeFault>
-    ensures { Answers OutOfMemory (last_doubles (view lifecycle.now)) (λ _. ⊤) result }
+    ensures { AnswerBy OutOfMemory (last_doubles (view lifecycle.now)) (λ _. ⊤) result }
 {
     if is_doubled(lifecycle, Key::Shutdown) {
         return Err(RecipeFault::DuplicateKey(Key::Shutdown));
@@ -78,7 +78,7 @@ fn no_last_doubles(lifecycle: &Tree) -> Result<(), RecipeFault>
 }
 
 fn check_keys(lifecycle: &Tree) -> Result<(), RecipeFault>
-    ensures { Answers OutOfMemory (keys_lines (view lifecycle.now)) (λ _. ⊤) result }
+    ensures { AnswerBy OutOfMemory (keys_lines (view lifecycle.now)) (λ _. ⊤) result }
 {
     if !lifecycle.is_object() {
         return Err(RecipeFault::WrongKind(Key::Lifecycle));
@@ -93,8 +93,8 @@ fn first_steps(
     outer: &[(Text, Text)],
 ) -> Result<FirstSteps, RecipeFault>
     requires regular { IsRegular (view lifecycle.now) }
-    requires rises { Rises outer.now }
-    ensures { Answers OutOfMemory (first_lines (view lifecycle.now)) (AreFirst outer.now (view lifecycle.now)) result }
+    requires rises { HaveRisingNames outer.now }
+    ensures { AnswerBy OutOfMemory (first_lines (view lifecycle.now)) (AreFirst outer.now (view lifecycle.now)) result }
 {
     let install = step_at(alloc, Step::Install, lifecycle, outer)?;
     let run = step_at(alloc, Step::Run, lifecycle, outer)?;
@@ -112,8 +112,8 @@ fn last_steps(
     outer: &[(Text, Text)],
 ) -> Result<LastSteps, RecipeFault>
     requires regular { IsRegular (view lifecycle.now) }
-    requires rises { Rises outer.now }
-    ensures { Answers OutOfMemory (last_lines (view lifecycle.now)) (AreLast outer.now (view lifecycle.now)) result }
+    requires rises { HaveRisingNames outer.now }
+    ensures { AnswerBy OutOfMemory (last_lines (view lifecycle.now)) (AreLast outer.now (view lifecycle.now)) result }
 {
     let shutdown = step_at(alloc, Step::Shutdown, lifecycle, outer)?;
     let recover = step_at(alloc, Step::Recover, lifecycle, outer)?;
@@ -135,7 +135,7 @@ fn has_both(lifecycle: &Tree) -> bool
 
 fn steps_in(alloc: Global, lifecycle: &Tree) -> Result<Steps, RecipeFault>
     requires { IsRegular (view lifecycle.now) }
-    ensures { Answers OutOfMemory (lifecycle_lines (view lifecycle.now)) (λ steps. AreSteps (Some (view lifecycle.now)) (made_step steps)) result }
+    ensures { AnswerBy OutOfMemory (lifecycle_lines (view lifecycle.now)) (λ steps. AreSteps (Some (view lifecycle.now)) (made_step steps)) result }
 {
     check_keys(lifecycle)?;
     let outer = variables_at(alloc, lifecycle)?;
@@ -168,7 +168,7 @@ pub fn no_steps() -> Steps
 /// The steps of a manifest.
 pub fn steps_of(alloc: Global, manifest: &Tree) -> Result<Steps, RecipeFault>
     requires { IsRegular (view manifest.now) }
-    ensures { Answers OutOfMemory
+    ensures { AnswerBy OutOfMemory
         (is_optional (spelled key.Lifecycle) (view manifest.now) lifecycle_lines)
         (λ steps. AreSteps (present (member_of (spelled key.Lifecycle) (view manifest.now))) (made_step steps))
         result }

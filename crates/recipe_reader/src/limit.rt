@@ -1,7 +1,7 @@
 // How long a step may take.
 ghost use Rattle.std.specs.Prelude.{◌≡◌, ◌≤◌};
 ghost use Rattle.serde_json.specs.Data.{number, unsigned};
-ghost use Rattle.nuc_base.specs.Tables.{Answers, on};
+ghost use Rattle.nuc_base.specs.Tables.{AnswerBy, on};
 ghost use Rattle.tree_core.specs.View.{view};
 ghost use Rattle.tree_core.specs.Regular.{IsRegular};
 ghost use Rattle.recipe_reader.specs.Spelled.{spelled};
@@ -18,7 +18,7 @@ use tree_core::{CountFault, Tree};
 const MOST_SECONDS: u64 = 1_000_000;
 
 fn seconds_in(value: &Tree) -> Result<u64, RecipeFault>
-    ensures { Answers OutOfMemory (timeout_lines (view value.now)) (λ n. (view value.now ≡ number (unsigned n)) × (n ≤ 1000000)) result }
+    ensures { AnswerBy OutOfMemory (timeout_lines (view value.now)) (λ n. (view value.now ≡ number (unsigned n)) × (n ≤ 1000000)) result }
 {
     match value.count(MOST_SECONDS) {
         Ok(seconds) => Ok(seconds),
@@ -41,7 +41,7 @@ pub fn usual_limit(step: Step) -> Option<u64>
 /// The limit of a step in milliseconds, by its object or else the usual one.
 pub fn limit_at(step: Step, value: &Tree) -> Result<Option<u64>, RecipeFault>
     requires { IsRegular (view value.now) }
-    ensures { Answers OutOfMemory
+    ensures { AnswerBy OutOfMemory
         (on (keyed_of (spelled key.Timeout) (view value.now)) timeout_lines)
         (IsLimit step (keyed_of (spelled key.Timeout) (view value.now)))
         result }

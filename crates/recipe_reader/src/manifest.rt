@@ -1,6 +1,6 @@
 // What the manifest for a platform says.
 ghost use Rattle.std.specs.Prelude.{Some, None};
-ghost use Rattle.nuc_base.specs.Tables.{Answers};
+ghost use Rattle.nuc_base.specs.Tables.{AnswerBy};
 ghost use Rattle.tree_core.specs.View.{view};
 ghost use Rattle.tree_core.specs.Regular.{IsRegular};
 ghost use Rattle.recipe_reader.specs.Recipes.{chosen_lines, part_lines, manifest_of};
@@ -25,7 +25,7 @@ pub struct Chosen {
 
 fn chosen_in(alloc: Global, manifest: &Tree) -> Result<Chosen, RecipeFault>
     requires { IsRegular (view manifest.now) }
-    ensures { Answers OutOfMemory (chosen_lines (view manifest.now)) (IsChosen (Some (view manifest.now))) result }
+    ensures { AnswerBy OutOfMemory (chosen_lines (view manifest.now)) (IsChosen (Some (view manifest.now))) result }
 {
     let steps = steps_of(alloc, manifest)?;
     let artifacts = artifacts_of(alloc, manifest)?;
@@ -50,7 +50,7 @@ fn nothing_chosen(alloc: Global) -> Chosen
 /// What the manifest for the platform says.
 pub fn chosen_of(alloc: Global, platform: &Platform, recipe: &Tree) -> Result<Chosen, RecipeFault>
     requires { IsRegular (view recipe.now) }
-    ensures { Answers OutOfMemory
+    ensures { AnswerBy OutOfMemory
         (part_lines platform.now (view recipe.now))
         (IsChosen (manifest_of platform.now (view recipe.now)))
         result }

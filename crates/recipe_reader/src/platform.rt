@@ -4,12 +4,12 @@ ghost use Rattle.std.specs.List.{list_all, list_any};
 ghost use Rattle.serde_json.specs.Data.{array};
 ghost use Rattle.serde_json.specs.Find.{get as member_of};
 ghost use Rattle.nuc_base.specs.Names.{is_name_byte};
-ghost use Rattle.nuc_base.specs.Tables.{Answers};
+ghost use Rattle.nuc_base.specs.Tables.{AnswerBy};
 ghost use Rattle.tree_core.specs.View.{view, field_view, items_view};
 ghost use Rattle.tree_core.specs.Regular.{IsRegular};
 ghost use Rattle.tree_core.specs.Parts.{present, values, check, optional as is_optional};
 ghost use Rattle.recipe_reader.specs.Spelled.{spelled};
-ghost use Rattle.recipe_reader.specs.Found.{Finds};
+ghost use Rattle.recipe_reader.specs.Found.{IsSeenAs};
 ghost use Rattle.recipe_reader.specs.Platforms.{is_any as is_any_text, is_word as is_one_word, inside as text_inside, words as words_in, is_text};
 ghost use Rattle.recipe_reader.specs.Platforms.{is_pattern as is_a_pattern, names as names_value, word_lines, platform_lines, manifest_lines};
 ghost use Rattle.recipe_reader.specs.Platforms.{manifests_lines, fits, is_open as is_open_value, asks_nothing as asks_for_nothing, platform_matches, matches};
@@ -125,7 +125,7 @@ fn names(value: &str, text: &str) -> bool
 }
 
 fn word_fits(key: Key, value: &Label, word: &Tree) -> Result<bool, RecipeFault>
-    ensures { Answers OutOfMemory (word_lines key (view word.now)) (λ b. b ≡ fits value.now (Some (view word.now))) result }
+    ensures { AnswerBy OutOfMemory (word_lines key (view word.now)) (λ b. b ≡ fits value.now (Some (view word.now))) result }
 {
     let Tree::Text(text) = word else {
         return Err(RecipeFault::WrongKind(key));
@@ -137,7 +137,7 @@ fn word_fits(key: Key, value: &Label, word: &Tree) -> Result<bool, RecipeFault>
 }
 
 fn key_fits(key: Key, value: &Label, platform: &Tree) -> Result<bool, RecipeFault>
-    ensures { Answers OutOfMemory
+    ensures { AnswerBy OutOfMemory
         (is_optional (spelled key) (view platform.now) (word_lines key))
         (λ b. b ≡ fits value.now (present (member_of (spelled key) (view platform.now))))
         result }
@@ -177,7 +177,7 @@ fn others_ask_nothing(fields: &Vec<(Text, Tree)>) -> bool
 }
 
 fn platform_fits(platform: &Platform, value: &Tree) -> Result<bool, RecipeFault>
-    ensures { Answers OutOfMemory (platform_lines (view value.now)) (λ b. b ≡ platform_matches platform.now (view value.now)) result }
+    ensures { AnswerBy OutOfMemory (platform_lines (view value.now)) (λ b. b ≡ platform_matches platform.now (view value.now)) result }
 {
     let Tree::Fields(fields) = value else {
         return Err(RecipeFault::WrongKind(Key::Platform));
@@ -195,7 +195,7 @@ fn fits_all(os: bool, architecture: bool, fields: &Vec<(Text, Tree)>) -> bool
 
 /// Whether the manifest is for the platform.
 fn manifest_fits(platform: &Platform, manifest: &Tree) -> Result<bool, RecipeFault>
-    ensures { Answers OutOfMemory (manifest_lines (view manifest.now)) (λ b. b ≡ matches platform.now (view manifest.now)) result }
+    ensures { AnswerBy OutOfMemory (manifest_lines (view manifest.now)) (λ b. b ≡ matches platform.now (view manifest.now)) result }
 {
     if !manifest.is_object() {
         return Err(RecipeFault::WrongKind(Key::Manifests));
@@ -212,9 +212,9 @@ fn first_fit<'t>(
     manifests: &'t Vec<Tree>,
 ) -> Result<Option<&'t Tree>, RecipeFault>
     requires { IsRegular (array (items_view manifests.now.items)) }
-    ensures { Answers OutOfMemory
+    ensures { AnswerBy OutOfMemory
         (walk_lines platform.now (map view manifests.now.items))
-        (Finds (λ t. view t.now) (chosen platform.now (map view manifests.now.items)))
+        (IsSeenAs (λ t. view t.now) (chosen platform.now (map view manifests.now.items)))
         result }
 {
     for manifest in manifests {
@@ -231,9 +231,9 @@ fn choice_among<'t>(
     manifests: &'t Vec<Tree>,
 ) -> Result<Option<&'t Tree>, RecipeFault>
     requires { IsRegular (array (items_view manifests.now.items)) }
-    ensures { Answers OutOfMemory
+    ensures { AnswerBy OutOfMemory
         (walk_lines platform.now (map view manifests.now.items) ++ check (HasChoice platform.now (map view manifests.now.items)) NoManifest)
-        (Finds (λ t. view t.now) (chosen platform.now (map view manifests.now.items)))
+        (IsSeenAs (λ t. view t.now) (chosen platform.now (map view manifests.now.items)))
         result }
 {
     match first_fit(platform, manifests)? {
@@ -250,9 +250,9 @@ fn choice_among<'t>(
 
 fn choice_in<'t>(platform: &Platform, value: &'t Tree) -> Result<Option<&'t Tree>, RecipeFault>
     requires { IsRegular (view value.now) }
-    ensures { Answers OutOfMemory
+    ensures { AnswerBy OutOfMemory
         (manifests_lines platform.now (view value.now))
-        (Finds (λ t. view t.now) (chosen platform.now (values (view value.now))))
+        (IsSeenAs (λ t. view t.now) (chosen platform.now (values (view value.now))))
         result }
 {
     let Tree::Items(items) = value else {
@@ -267,9 +267,9 @@ fn choice_in<'t>(platform: &Platform, value: &'t Tree) -> Result<Option<&'t Tree
 /// The manifest of a recipe that is for the platform, where the recipe has manifests.
 pub fn choice<'t>(platform: &Platform, recipe: &'t Tree) -> Result<Option<&'t Tree>, RecipeFault>
     requires { IsRegular (view recipe.now) }
-    ensures { Answers OutOfMemory
+    ensures { AnswerBy OutOfMemory
         (is_optional (spelled key.Manifests) (view recipe.now) (manifests_lines platform.now))
-        (Finds (λ t. view t.now) (chosen_in platform.now (present (member_of (spelled key.Manifests) (view recipe.now)))))
+        (IsSeenAs (λ t. view t.now) (chosen_in platform.now (present (member_of (spelled key.Manifests) (view recipe.now)))))
         result }
 {
     match optional(recipe, Key::Manifests) {

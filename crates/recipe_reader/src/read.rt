@@ -1,6 +1,6 @@
 // Reading a recipe.
 ghost use Rattle.std.specs.Prelude.{◌≡◌, IfOk};
-ghost use Rattle.nuc_base.specs.Tables.{Answers};
+ghost use Rattle.nuc_base.specs.Tables.{AnswerBy};
 ghost use Rattle.tree_core.specs.View.{view};
 ghost use Rattle.tree_core.specs.Regular.{IsRegular};
 ghost use Rattle.recipe_reader.specs.Recipes.{recipe_lines, IsRecipe, ReadsRecipe};
@@ -82,7 +82,7 @@ fn recipe_from(
 
 fn recipe_of(alloc: Global, platform: &Platform, tree: &Tree) -> Result<Recipe, RecipeFault>
     requires { IsRegular (view tree.now) }
-    ensures { Answers OutOfMemory (recipe_lines platform.now (view tree.now)) (IsRecipe platform.now (view tree.now)) result }
+    ensures { AnswerBy OutOfMemory (recipe_lines platform.now (view tree.now)) (IsRecipe platform.now (view tree.now)) result }
 {
     let head = head_of(alloc, tree)?;
     let default_config = default_of(alloc, tree)?;

@@ -1,7 +1,7 @@
 // When a step is skipped.
 ghost use Rattle.std.specs.Prelude.{◌≡◌, ◌≢◌, ◌∷◌, ◌++◌, [], ℕ, List, MatchOption, true};
 ghost use Rattle.serde_json.specs.Data.{string};
-ghost use Rattle.nuc_base.specs.Tables.{Answers, on};
+ghost use Rattle.nuc_base.specs.Tables.{AnswerBy, on};
 ghost use Rattle.tree_core.specs.View.{view};
 ghost use Rattle.tree_core.specs.Regular.{IsRegular};
 ghost use Rattle.recipe_reader.specs.Spelled.{spelled};
@@ -33,11 +33,11 @@ fn past_blank(text: &str) -> Option<&str>
 /// The text before a blank at its end.
 fn before_blank(text: &str) -> Option<&str>
     ensures { MatchOption result
-        ((x : ℕ) (front : List ℕ) → is_blank x ≡ true → text.now ≢ front ++ x ∷ [])
-        (λ front. (x : ℕ) × (is_blank x ≡ true) × (text.now ≡ front.now ++ x ∷ [])) }
+        ((x : ℕ) (prefix : List ℕ) → is_blank x ≡ true → text.now ≢ prefix ++ x ∷ [])
+        (λ prefix. (x : ℕ) × (is_blank x ≡ true) × (text.now ≡ prefix.now ++ x ∷ [])) }
 {
     match text.strip_suffix(' ') {
-        Some(front) => Some(front),
+        Some(prefix) => Some(prefix),
         None => text.strip_suffix('\t'),
     }
 }
@@ -56,8 +56,8 @@ fn trim_end(text: &str) -> &str
     ensures { result.now ≡ end_trimmed text.now }
 {
     let mut rest = text;
-    'blanks: while let Some(front) = before_blank(rest) {
-        rest = front;
+    'blanks: while let Some(prefix) = before_blank(rest) {
+        rest = prefix;
     }
     rest
 }
@@ -70,7 +70,7 @@ fn trimmed(text: &str) -> &str
 }
 
 fn skip_of(alloc: Global, text: &str) -> Result<Skip, RecipeFault>
-    ensures { Answers OutOfMemory (skip_lines (string text.now)) (IsSkip (string text.now)) result }
+    ensures { AnswerBy OutOfMemory (skip_lines (string text.now)) (IsSkip (string text.now)) result }
 {
     if let Some(rest) = text.strip_prefix("onpath ") {
         let program = trimmed(rest);
@@ -90,7 +90,7 @@ fn skip_of(alloc: Global, text: &str) -> Result<Skip, RecipeFault>
 }
 
 fn skip_in(alloc: Global, value: &Tree) -> Result<Skip, RecipeFault>
-    ensures { Answers OutOfMemory (skip_lines (view value.now)) (IsSkip (view value.now)) result }
+    ensures { AnswerBy OutOfMemory (skip_lines (view value.now)) (IsSkip (view value.now)) result }
 {
     let Tree::Text(text) = value else {
         return Err(RecipeFault::BadSkipif);
@@ -101,7 +101,7 @@ fn skip_in(alloc: Global, value: &Tree) -> Result<Skip, RecipeFault>
 /// When the step is skipped, where its object says so.
 pub fn skip_at(alloc: Global, step: &Tree) -> Result<Option<Skip>, RecipeFault>
     requires { IsRegular (view step.now) }
-    ensures { Answers OutOfMemory
+    ensures { AnswerBy OutOfMemory
         (on (keyed_of (spelled key.Skipif) (view step.now)) skip_lines)
         (IsSkipOf (keyed_of (spelled key.Skipif) (view step.now)))
         result }

@@ -2,13 +2,13 @@
 ghost use Rattle.std.specs.Prelude.{◌≡◌, Some, option_and_then, IfOk, ⊤};
 ghost use Rattle.serde_json.specs.Data.{string};
 ghost use Rattle.serde_json.specs.Find.{as_str};
-ghost use Rattle.nuc_base.specs.Tables.{Answers, on};
+ghost use Rattle.nuc_base.specs.Tables.{AnswerBy, on};
 ghost use Rattle.tree_core.specs.View.{view};
 ghost use Rattle.tree_core.specs.Parts.{IsObject};
 ghost use Rattle.tree_core.specs.Regular.{IsRegular};
 ghost use Rattle.recipe_reader.specs.Spelled.{spelled};
 ghost use Rattle.recipe_reader.specs.Keys.{keyed as keyed_of, any_case as case_of};
-ghost use Rattle.recipe_reader.specs.Environment.{Rises};
+ghost use Rattle.recipe_reader.specs.Environment.{HaveRisingNames};
 ghost use Rattle.recipe_reader.specs.Steps.{key_of as step_key, double_lines, script_lines, text_lines, object_lines, step_lines, IsStepDef, IsStep};
 ghost use Rattle.recipe_reader.specs.declared.fault.Key.TheVariants as key;
 ghost use Rattle.recipe_reader.specs.declared.fault.RecipeFault.TheVariants.{NoMemory as OutOfMemory};
@@ -37,7 +37,7 @@ fn key_of(step: Step) -> Key
 }
 
 fn no_doubles(step: &Tree) -> Result<(), RecipeFault>
-    ensures { Answers OutOfMemory (double_lines (view step.now)) (λ _. ⊤) result }
+    ensures { AnswerBy OutOfMemory (double_lines (view step.now)) (λ _. ⊤) result }
 {
     if is_doubled(step, Key::Script) {
         return Err(RecipeFault::DuplicateKey(Key::Script));
@@ -55,7 +55,7 @@ fn no_doubles(step: &Tree) -> Result<(), RecipeFault>
 }
 
 fn script_of(alloc: Global, value: &Tree) -> Result<Text, RecipeFault>
-    ensures { Answers OutOfMemory (text_lines key.Script (view value.now)) (λ s. as_str (view value.now) ≡ Some s) result }
+    ensures { AnswerBy OutOfMemory (text_lines key.Script (view value.now)) (λ s. as_str (view value.now) ≡ Some s) result }
 {
     let Tree::Text(text) = value else {
         return Err(RecipeFault::WrongKind(Key::Script));
@@ -65,7 +65,7 @@ fn script_of(alloc: Global, value: &Tree) -> Result<Text, RecipeFault>
 
 fn script_at(alloc: Global, step: &Tree) -> Result<Text, RecipeFault>
     requires { IsRegular (view step.now) }
-    ensures { Answers OutOfMemory
+    ensures { AnswerBy OutOfMemory
         (script_lines (view step.now))
         (λ s. option_and_then as_str (case_of (spelled key.Script) (view step.now)) ≡ Some s)
         result }
@@ -83,7 +83,7 @@ fn plain_step(
     script: &Text,
     outer: &[(Text, Text)],
 ) -> Result<StepDef, NoMemory>
-    requires { Rises outer.now }
+    requires { HaveRisingNames outer.now }
     ensures { IfOk result (IsStepDef step outer.now (string script.now)) }
 {
     let none = List::empty(alloc);
@@ -104,9 +104,9 @@ fn object_step(
     outer: &[(Text, Text)],
 ) -> Result<StepDef, RecipeFault>
     requires regular { IsRegular (view value.now) }
-    requires rises { Rises outer.now }
+    requires rises { HaveRisingNames outer.now }
     requires object { IsObject (view value.now) }
-    ensures { Answers OutOfMemory (object_lines (view value.now)) (IsStepDef step outer.now (view value.now)) result }
+    ensures { AnswerBy OutOfMemory (object_lines (view value.now)) (IsStepDef step outer.now (view value.now)) result }
 {
     no_doubles(value)?;
     let script = script_at(alloc, value)?;
@@ -129,8 +129,8 @@ fn step_in(
     outer: &[(Text, Text)],
 ) -> Result<StepDef, RecipeFault>
     requires regular { IsRegular (view value.now) }
-    requires rises { Rises outer.now }
-    ensures { Answers OutOfMemory (step_lines step (view value.now)) (IsStepDef step outer.now (view value.now)) result }
+    requires rises { HaveRisingNames outer.now }
+    ensures { AnswerBy OutOfMemory (step_lines step (view value.now)) (IsStepDef step outer.now (view value.now)) result }
 {
     match value {
         Tree::Text(script) => Ok(plain_step(alloc, step, script, outer)?),
@@ -147,8 +147,8 @@ pub fn step_at(
     outer: &[(Text, Text)],
 ) -> Result<Option<StepDef>, RecipeFault>
     requires regular { IsRegular (view lifecycle.now) }
-    requires rises { Rises outer.now }
-    ensures { Answers OutOfMemory
+    requires rises { HaveRisingNames outer.now }
+    ensures { AnswerBy OutOfMemory
         (on (keyed_of (spelled (step_key step)) (view lifecycle.now)) (step_lines step))
         (IsStep step outer.now (keyed_of (spelled (step_key step)) (view lifecycle.now)))
         result }

@@ -8,7 +8,7 @@ use Rattle.std.proofs.lemmas.Bool.{cases_lt, ltb-false, le-ltb}
 use Rattle.std.proofs.lemmas.List.{take_at, drop_at, take-append-drop, length-append, length-take, get_or-drop, get_or-take, get_or_past}
 use Rattle.std.proofs.lemmas.List.Concat.{flat_map-cons}
 use Rattle.std.proofs.lemmas.Nat.{be_bytes_4, be_bytes_8, from_be_bytes-to_be_bytes_4, from_be_bytes-to_be_bytes_8}
-use Rattle.records.specs.Codec.{Codec, ◌>>=◌, ◌&◌, only_if, wide_at, wide, number_at, number, long, those, front_at, fixed, string_at, string, texts, as_a}
+use Rattle.records.specs.Codec.{Codec, ◌>>=◌, ◌&◌, only_if, wide_at, wide, number_at, number, long, those, prefix_at, fixed, string_at, string, texts, as_a}
 use Rattle.records.specs.Codec.{nothing, byte_at, byte, items_at, list_of}
 use Rattle.records.proofs.Leaves.{bind_some, some_is, if_some, unless_some}
 
@@ -28,7 +28,7 @@ IsBytes-take n bytes h i =
 pub IsBytes-rest : (b : ℕ) (bytes : List ℕ) → IsBytes (b ∷ bytes) → IsBytes bytes
 IsBytes-rest b bytes h i = h (suc i)
 
--- what a reader took from the front
+-- what a reader took from the beginning
 pub record Takes (bytes text rest : List ℕ) : Type 0 where
   pub parts : bytes ≡ text ++ rest
   pub rest_fits : IsBytes rest
@@ -60,11 +60,11 @@ wide_takes : (w : Width) (limit : ℕ) (wide : IsWide w limit) (bytes : List ℕ
 wide_takes w limit wide bytes p fits e =
     let g = unless_some (nat_lt (length bytes) (byte_len w)) (Some (from_be_bytes w (take (byte_len w) bytes), drop (byte_len w) bytes)) p e in
     let long : byte_len w ≤ length bytes = ltb-false _ _ g.0 in
-    let front_fits = IsBytes-take (byte_len w) bytes fits in
-    let front : to_be_bytes w (from_be_bytes w (take (byte_len w) bytes)) ≡ take (byte_len w) bytes =
-    wide.back (take (byte_len w) bytes) (omega (arith, length-take (byte_len w) bytes)) front_fits in
+    let prefix_fits = IsBytes-take (byte_len w) bytes fits in
+    let prefix : to_be_bytes w (from_be_bytes w (take (byte_len w) bytes)) ≡ take (byte_len w) bytes =
+    wide.back (take (byte_len w) bytes) (omega (arith, length-take (byte_len w) bytes)) prefix_fits in
     subst (λ (q : ℕ × List ℕ). Takes bytes (to_be_bytes w q.0) q.1 × (q.0 < limit)) (some_is _ p g.1)
-    (record { parts = rw front (sym (take-append-drop (byte_len w) bytes)); rest_fits = IsBytes-drop (byte_len w) bytes fits }, wide.below _ front_fits)
+    (record { parts = rw prefix (sym (take-append-drop (byte_len w) bytes)); rest_fits = IsBytes-drop (byte_len w) bytes fits }, wide.below _ prefix_fits)
 
 wide_again : (w : Width) (limit : ℕ) (wide : IsWide w limit) (n : ℕ) (rest : List ℕ) → n < limit → wide_at w (to_be_bytes w n ++ rest) ≡ Some (n, rest)
 wide_again w limit wide n rest lt =
@@ -95,33 +95,33 @@ number_is = wide_is w32 (2 ^ 32) wide32
 pub long_is : IsCodec long
 long_is = wide_is w64 (2 ^ 64) wide64
 
-front_takes : (n : ℕ) (bytes : List ℕ) (p : List ℕ × List ℕ) → IsBytes bytes → front_at n bytes ≡ Some p → Takes bytes p.0 p.1 × (length p.0 ≡ n)
-front_takes n bytes p fits e =
+prefix_takes : (n : ℕ) (bytes : List ℕ) (p : List ℕ × List ℕ) → IsBytes bytes → prefix_at n bytes ≡ Some p → Takes bytes p.0 p.1 × (length p.0 ≡ n)
+prefix_takes n bytes p fits e =
     let g = unless_some (nat_lt (length bytes) n) (Some (take n bytes, drop n bytes)) p e in
     let long : n ≤ length bytes = ltb-false _ _ g.0 in
     subst (λ (q : List ℕ × List ℕ). Takes bytes q.0 q.1 × (length q.0 ≡ n)) (some_is _ p g.1)
     (record { parts = sym (take-append-drop n bytes); rest_fits = IsBytes-drop n bytes fits }, omega (arith, length-take n bytes))
 
-front_again : (n : ℕ) (x rest : List ℕ) → length x ≡ n → front_at n (x ++ rest) ≡ Some (x, rest)
-front_again n x rest len =
+prefix_again : (n : ℕ) (x rest : List ℕ) → length x ≡ n → prefix_at n (x ++ rest) ≡ Some (x, rest)
+prefix_again n x rest len =
     let long : nat_lt (length (x ++ rest)) n ≡ false = le-ltb _ _ (omega (arith, length-append x rest)) in
     rw (long, take_at x rest n len, drop_at x rest n len) refl
 
 pub fixed_is : (n : ℕ) → IsCodec (fixed n)
-fixed_is n = record { takes = front_takes n; again = front_again n; asks = λ x h. tt }
+fixed_is n = record { takes = prefix_takes n; again = prefix_again n; asks = λ x h. tt }
 
 string_takes : (bytes : List ℕ) (p : List ℕ × List ℕ) → IsBytes bytes → string_at bytes ≡ Some p → Takes bytes (string.spell p.0) p.1 × (length p.0 < 2 ^ 32)
 unfolding string_at
 string_takes bytes p fits e =
-    let b = bind_some (number_at bytes) (λ n. front_at n.0 n.1) p e in
+    let b = bind_some (number_at bytes) (λ n. prefix_at n.0 n.1) p e in
     let t = number_takes bytes b.0 fits b.1 in
-    let f = front_takes b.0.0 b.0.1 p t.0.rest_fits b.2 in
+    let f = prefix_takes b.0.0 b.0.1 p t.0.rest_fits b.2 in
     let both = Takes-then bytes (to_be_bytes w32 b.0.0) b.0.1 p.0 p.1 t.0 f.0 in
     (subst (λ (k : ℕ). Takes bytes (to_be_bytes w32 k ++ p.0) p.1) (sym f.1) both, subst (λ (k : ℕ). k < 2 ^ 32) (sym f.1) t.1)
 
 string_again : (x rest : List ℕ) → length x < 2 ^ 32 → string_at (string.spell x ++ rest) ≡ Some (x, rest)
 unfolding string_at
-string_again x rest lt = rw (number_again (length x) (x ++ rest) lt, front_again (length x) x rest refl) refl
+string_again x rest lt = rw (number_again (length x) (x ++ rest) lt, prefix_again (length x) x rest refl) refl
 
 pub string_is : IsCodec string
 string_is = record { takes = string_takes; again = string_again; asks = λ x h. h }

@@ -17,7 +17,7 @@ use Rattle.tree_core.specs.declared.fault.TreeFault.{TreeFault}
 use Rattle.tree_core.specs.declared.fault.TreeFault.TheVariants as trees
 use Rattle.records.specs.declared.stop.Stop.{Stop}
 use Rattle.records.specs.declared.stop.Stop.TheVariants.{Memory, Bad}
-use Rattle.records.specs.Gives.{Fails, Stops}
+use Rattle.records.specs.Gives.{IsReadFailure, IsTreeStop}
 use Rattle.nuc_base.specs.Names.{IsName, IsLabel, is_name_byte, is_label_byte}
 use Rattle.npm_ranges.specs.Ranges.{IsRange, IsReadable}
 use Rattle.npm_ranges.specs.Versions.{IsVersion}
@@ -236,15 +236,15 @@ no_tree t h = none_from (tree_of t) (λ d e. h d (tree_says t d e))
 one_value : (t : List ℕ) (d e : Data) → IsJson t d → IsText t e → d ≡ e
 one_value t d e j h = some_is d e (sym j.value ∙ h.json.value)
 
-stopped : (s : Stop) (t : List ℕ) → s ≡ Bad → tree_of t ≡ None → Fails s (tree_of t)
+stopped : (s : Stop) (t : List ℕ) → s ≡ Bad → tree_of t ≡ None → IsReadFailure s (tree_of t)
 stopped Memory t e n = tt
 stopped Bad t e n = n
 
-stopped_memory : (s : Stop) (t : List ℕ) → s ≡ Memory → Fails s (tree_of t)
+stopped_memory : (s : Stop) (t : List ℕ) → s ≡ Memory → IsReadFailure s (tree_of t)
 stopped_memory Memory t e = tt
 stopped_memory Bad t e = absurd cc
 
-pub tree_fails : (t : List ℕ) (fault : TreeFault) (s : Stop) → IsFirstFault t (length t) fault → Stops fault s → Fails s (tree_of t)
+pub tree_fails : (t : List ℕ) (fault : TreeFault) (s : Stop) → IsFirstFault t (length t) fault → IsTreeStop fault s → IsReadFailure s (tree_of t)
 tree_fails t trees.TooLarge s f e = absurd (omega (arith, f))
 tree_fails t trees.NotJson s f e = stopped s t e (no_tree t (λ d h. f.1 d h.json))
 tree_fails t trees.TooDeep s f e =

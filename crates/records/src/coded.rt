@@ -3,7 +3,7 @@ ghost use Rattle.std.specs.Prelude.{◌≡◌, ◌++◌, ◌<◌, ◌^◌, ℕ, 
 ghost use Rattle.std.specs.List.{flat_map, AllByRecursion};
 ghost use Rattle.std.specs.Int.{w32, to_be_bytes};
 ghost use Rattle.records.specs.Codec.{list_at, pair_at, number_at, string_at, string, items_at, nothing};
-ghost use Rattle.records.specs.Gives.{Gives};
+ghost use Rattle.records.specs.Gives.{ReadOutcome};
 
 use crate::stop::Stop;
 use nuc_base::{List, NoMemory};
@@ -29,25 +29,25 @@ pub(crate) trait Coded: Drop + Sized {
         ensures spelled { OnOk result (out.new.items ≡ out.old.items ++ Self.spell (Self.seen self.now)) }
         ensures fits { OnOk result (Self.fits (Self.seen self.now)) };
 
-    /// Reads the value at the front, and gives the bytes behind it.
+    /// Reads the value at the beginning, and gives the bytes behind it.
     fn take(alloc: Global, bytes: &[u8]) -> Result<(Self, &[u8]), Stop>
-        ensures { Gives (λ x. (Self.seen x.0, x.1.now)) result (Self.at bytes.now) };
+        ensures { ReadOutcome (λ x. (Self.seen x.0, x.1.now)) result (Self.at bytes.now) };
 }
 
 pub(crate) fn number_of(bytes: &[u8]) -> Result<(u32, &[u8]), Stop>
-    ensures { Gives (λ x. (x.0, x.1.now)) result (number_at bytes.now) }
+    ensures { ReadOutcome (λ x. (x.0, x.1.now)) result (number_at bytes.now) }
 {
     if bytes.len() < 4 {
         return Err(Stop::Bad);
     }
-    let (front, rest) = bytes.split_at(4);
-    let number = u32::from_be_bytes([front[0], front[1], front[2], front[3]]);
+    let (prefix, rest) = bytes.split_at(4);
+    let number = u32::from_be_bytes([prefix[0], prefix[1], prefix[2], prefix[3]]);
     Ok((number, rest))
 }
 
 #[tactic(auto, unfolding(crate::specs::Codec::string_at))]
 pub(crate) fn string_of(bytes: &[u8]) -> Result<(&[u8], &[u8]), Stop>
-    ensures { Gives (λ x. (x.0.now, x.1.now)) result (string_at bytes.now) }
+    ensures { ReadOutcome (λ x. (x.0.now, x.1.now)) result (string_at bytes.now) }
 {
     let (len, rest) = number_of(bytes)?;
     let len = len as usize;
@@ -67,7 +67,7 @@ pub(crate) fn put_string(out: &mut Vec<u8>, text: &[u8]) -> Result<(), NoMemory>
 }
 
 fn items_of<T: Coded>(alloc: Global, count: u32, bytes: &[u8]) -> Result<(Vec<T>, &[u8]), Stop>
-    ensures { Gives (λ x. (map T.seen x.0.items, x.1.now)) result (items_at T.at count bytes.now) }
+    ensures { ReadOutcome (λ x. (map T.seen x.0.items, x.1.now)) result (items_at T.at count bytes.now) }
 {
     let mut items = Vec::new(alloc);
     let mut rest = bytes;

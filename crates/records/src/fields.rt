@@ -1,8 +1,8 @@
 //! How each small value and each structure is written and read: a line for each field.
 ghost use Rattle.std.specs.Prelude.{◌≡◌, ◌++◌, ℕ, List, Option, OnOk};
-ghost use Rattle.records.specs.Codec.{front_at};
+ghost use Rattle.records.specs.Codec.{prefix_at};
 ghost use Rattle.records.specs.Layout as layout;
-ghost use Rattle.records.specs.Gives.{Gives};
+ghost use Rattle.records.specs.Gives.{ReadOutcome};
 ghost use Rattle.records.specs.Stored.{Item, item_view};
 ghost use Rattle.nuc_base.specs.declared.kinds.Exit as exits;
 ghost use Rattle.nuc_base.specs.declared.kinds.Step as steps;
@@ -206,14 +206,14 @@ impl Coded for Origin {
 }
 
 fn digest_of(bytes: &[u8]) -> Result<([u8; 32], &[u8]), Stop>
-    ensures { Gives (λ x. (x.0, x.1.now)) result (front_at 32 bytes.now) }
+    ensures { ReadOutcome (λ x. (x.0, x.1.now)) result (prefix_at 32 bytes.now) }
 {
     if bytes.len() < 32 {
         return Err(Stop::Bad);
     }
-    let (front, rest) = bytes.split_at(32);
+    let (prefix, rest) = bytes.split_at(32);
     let mut digest = [0; 32];
-    digest.copy_from_slice(front);
+    digest.copy_from_slice(prefix);
     Ok((digest, rest))
 }
 

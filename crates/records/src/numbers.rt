@@ -2,7 +2,7 @@
 ghost use Rattle.std.specs.Prelude.{◌≡◌, ◌++◌, ℕ, List, Option, OnOk};
 ghost use Rattle.records.specs.Codec.{number, number_at, long, long_at};
 ghost use Rattle.records.specs.Layout as layout;
-ghost use Rattle.records.specs.Gives.{Gives};
+ghost use Rattle.records.specs.Gives.{ReadOutcome};
 
 use crate::coded::{Coded, number_of};
 use crate::stop::Stop;
@@ -33,14 +33,14 @@ impl Coded for u32 {
 }
 
 fn long_of(bytes: &[u8]) -> Result<(u64, &[u8]), Stop>
-    ensures { Gives (λ x. (x.0, x.1.now)) result (long_at bytes.now) }
+    ensures { ReadOutcome (λ x. (x.0, x.1.now)) result (long_at bytes.now) }
 {
     if bytes.len() < 8 {
         return Err(Stop::Bad);
     }
-    let (front, rest) = bytes.split_at(8);
+    let (prefix, rest) = bytes.split_at(8);
     let mut long = [0; 8];
-    long.copy_from_slice(front);
+    long.copy_from_slice(prefix);
     Ok((u64::from_be_bytes(long), rest))
 }
 

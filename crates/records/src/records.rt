@@ -3,7 +3,7 @@ ghost use Rattle.std.specs.Prelude.{◌≡◌, ◌++◌, ◌∷◌, ℕ, List, m
 ghost use Rattle.records.specs.Codec.{whole};
 ghost use Rattle.records.specs.Layout as layout;
 ghost use Rattle.records.specs.Layout.{Spelled, IsWritable, RecordFits, record_spelled};
-ghost use Rattle.records.specs.Gives.{Gives};
+ghost use Rattle.records.specs.Gives.{ReadOutcome};
 ghost use Rattle.records.specs.Stored.{item_view, plan_view, record_view};
 ghost use Rattle.records.specs.Stored as stored;
 
@@ -15,7 +15,7 @@ use nuc_base::{Bytes, Exit, Label, List, Name, NoMemory, Outcome, Policy, Step};
 use std::alloc::Global;
 
 fn all_of<T: Coded>(alloc: Global, bytes: &[u8]) -> Result<T, Stop>
-    ensures { Gives T.seen result (whole (T.at bytes.now)) }
+    ensures { ReadOutcome T.seen result (whole (T.at bytes.now)) }
 {
     let (value, rest) = T::take(alloc, bytes)?;
     if rest.is_empty() {
@@ -26,21 +26,21 @@ fn all_of<T: Coded>(alloc: Global, bytes: &[u8]) -> Result<T, Stop>
 }
 
 fn ended_boot_of(alloc: Global, bytes: &[u8]) -> Result<Record, Stop>
-    ensures { Gives record_view result (layout.boot_ended.of bytes.now) }
+    ensures { ReadOutcome record_view result (layout.boot_ended.of bytes.now) }
 {
     let (name, exit) = all_of::<(Name, Exit)>(alloc, bytes)?;
     Ok(Record::BootEnded(name, exit))
 }
 
 fn failed_step_of(alloc: Global, bytes: &[u8]) -> Result<Record, Stop>
-    ensures { Gives record_view result (layout.step_failed.of bytes.now) }
+    ensures { ReadOutcome record_view result (layout.step_failed.of bytes.now) }
 {
     let (name, (step, exit)) = all_of::<(Name, (Step, Exit))>(alloc, bytes)?;
     Ok(Record::StepFailed(name, step, exit))
 }
 
 fn turned_of(alloc: Global, bytes: &[u8]) -> Result<Record, Stop>
-    ensures { Gives record_view result (layout.turned.of bytes.now) }
+    ensures { ReadOutcome record_view result (layout.turned.of bytes.now) }
 {
     let (number, (origin, (groups, (items, closed)))) = all_of::<
         (u64, (Origin, (u32, (u32, u32)))),
@@ -49,7 +49,7 @@ fn turned_of(alloc: Global, bytes: &[u8]) -> Result<Record, Stop>
 }
 
 fn ended_of(alloc: Global, bytes: &[u8]) -> Result<Record, Stop>
-    ensures { Gives record_view result (layout.ended.of bytes.now) }
+    ensures { ReadOutcome record_view result (layout.ended.of bytes.now) }
 {
     let (id, outcome) = all_of::<(Label, Outcome)>(alloc, bytes)?;
     Ok(Record::Ended(id, outcome))
@@ -74,14 +74,14 @@ fn plan_of(id: Label, group: Label, revision: u64, wanted: Wanted) -> Plan
 }
 
 fn accepted_of(alloc: Global, bytes: &[u8]) -> Result<Record, Stop>
-    ensures { Gives record_view result (layout.accepted.of bytes.now) }
+    ensures { ReadOutcome record_view result (layout.accepted.of bytes.now) }
 {
     let (id, (group, wanted)) = all_of::<(Label, (Label, Wanted))>(alloc, bytes)?;
     Ok(Record::Accepted(plan_of(id, group, 0, wanted)))
 }
 
 fn accepted_revised_of(alloc: Global, bytes: &[u8]) -> Result<Record, Stop>
-    ensures { Gives record_view result (layout.accepted_revised.of bytes.now) }
+    ensures { ReadOutcome record_view result (layout.accepted_revised.of bytes.now) }
 {
     let (id, (group, (revision, wanted))) = all_of::<(Label, (Label, (Revision, Wanted)))>(
         alloc, bytes,
@@ -90,7 +90,7 @@ fn accepted_revised_of(alloc: Global, bytes: &[u8]) -> Result<Record, Stop>
 }
 
 fn grouped_of(alloc: Global, bytes: &[u8]) -> Result<Record, Stop>
-    ensures { Gives record_view result (layout.grouped.of bytes.now) }
+    ensures { ReadOutcome record_view result (layout.grouped.of bytes.now) }
 {
     let (arn, requirements) = all_of::<(Label, List<Requirement>)>(alloc, bytes)?;
     Ok(Record::Grouped(Group {
@@ -101,7 +101,7 @@ fn grouped_of(alloc: Global, bytes: &[u8]) -> Result<Record, Stop>
 }
 
 fn grouped_revised_of(alloc: Global, bytes: &[u8]) -> Result<Record, Stop>
-    ensures { Gives record_view result (layout.grouped_revised.of bytes.now) }
+    ensures { ReadOutcome record_view result (layout.grouped_revised.of bytes.now) }
 {
     let (arn, (revision, requirements)) = all_of::<(Label, (Revision, List<Requirement>))>(
         alloc, bytes,
@@ -115,7 +115,7 @@ fn grouped_revised_of(alloc: Global, bytes: &[u8]) -> Result<Record, Stop>
 
 #[tactic(auto, unfolding(crate::specs::Layout::record_of))]
 fn record_of(alloc: Global, bytes: &[u8]) -> Result<Record, Stop>
-    ensures { Gives record_view result (layout.record_of bytes.now) }
+    ensures { ReadOutcome record_view result (layout.record_of bytes.now) }
 {
     match bytes {
         [0x11, rest @ ..] => Ok(Record::Genesis(all_of(alloc, rest)?)),

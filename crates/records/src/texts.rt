@@ -4,7 +4,7 @@ ghost use Rattle.serde_json.specs.Data.{Data};
 ghost use Rattle.tree_core.specs.View.{view};
 ghost use Rattle.records.specs.Codec.{string, string_at};
 ghost use Rattle.records.specs.Layout as layout;
-ghost use Rattle.records.specs.Gives.{Gives, Stops};
+ghost use Rattle.records.specs.Gives.{ReadOutcome, IsTreeStop};
 
 use crate::coded::{Coded, put_string, string_of};
 use crate::stop::Stop;
@@ -173,7 +173,7 @@ impl Coded for Range {
 }
 
 fn stop_of(fault: TreeFault) -> Stop
-    ensures { Stops fault result }
+    ensures { IsTreeStop fault result }
 {
     match fault {
         TreeFault::NoMemory => Stop::Memory,
@@ -183,7 +183,7 @@ fn stop_of(fault: TreeFault) -> Stop
 }
 
 fn tree_of(alloc: Global, text: &[u8]) -> Result<Tree, Stop>
-    ensures { Gives view result (layout.tree_of text.now) }
+    ensures { ReadOutcome view result (layout.tree_of text.now) }
 {
     let tree = match Tree::read(alloc, text, text.len()) {
         Ok(tree) => tree,

@@ -3,28 +3,28 @@ use Rattle.std.proofs.Common.{◌≡◌, ℕ, sym, ◌∙◌}
 use Rattle.std.specs.Prelude.{Result, Err}
 use Rattle.session_boots.specs.declared.ends.SessionFault.{SessionFault}
 use Rattle.session_boots.specs.declared.ends.SessionFault.TheVariants as over
-use Rattle.session.specs.Endings.{Ending, Breaks, Fails, Full, Idle, Starves}
+use Rattle.session.specs.Endings.{Ending, BySinkFault, ByDiskFault, Full, Idle, WantBefore}
 
 -- one that is the first is not the second, where these differ
 pub differs : (ending first second : Ending) → ending ≡ first → (first ≡ second → ⊥) → ending ≡ second → ⊥
 differs ending first second is apart other = apart (sym is ∙ other)
 
-pub starves_fails : Starves ≡ Fails → ⊥
+pub starves_fails : WantBefore ≡ ByDiskFault → ⊥
 starves_fails is = cc
 
-pub breaks_fails : Breaks ≡ Fails → ⊥
+pub breaks_fails : BySinkFault ≡ ByDiskFault → ⊥
 breaks_fails is = cc
 
-pub idle_fails : Idle ≡ Fails → ⊥
+pub idle_fails : Idle ≡ ByDiskFault → ⊥
 idle_fails is = cc
 
-pub idle_starves : Idle ≡ Starves → ⊥
+pub idle_starves : Idle ≡ WantBefore → ⊥
 idle_starves is = cc
 
-pub full_fails : (at : ℕ) → Full at ≡ Fails → ⊥
+pub full_fails : (at : ℕ) → Full at ≡ ByDiskFault → ⊥
 full_fails at is = cc
 
-pub full_starves : (at : ℕ) → Full at ≡ Starves → ⊥
+pub full_starves : (at : ℕ) → Full at ≡ WantBefore → ⊥
 full_starves at is = cc
 
 -- a fault of the sink is none of the disk

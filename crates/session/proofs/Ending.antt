@@ -6,11 +6,11 @@ use Rattle.std.specs.Io.KnownBytes.{Appends}
 use Rattle.std.proofs.Common.{◌≡◌, ◌≢◌, ◌≤◌, ◌⊎◌, ◌∙◌, inl, inr, refl, sym, ap, subst, arith}
 use Rattle.std.proofs.lemmas.Bool.{false≢true}
 use Rattle.std.proofs.lemmas.List.{append-nil}
-use Rattle.disk_model.specs.Disk.{Image, After, DiskLaws, Leaves}
+use Rattle.disk_model.specs.Disk.{Image, IsAfter, DiskLaws, HasLeft}
 use Rattle.disk_model.specs.Listing.{artifacts, IsBelow}
-use Rattle.disk_model.specs.Spares.{Spares}
+use Rattle.disk_model.specs.Spares.{IsSameBut}
 use Rattle.disk_model.specs.Moments.{at_start, joined, then_spares, weaker}
-use Rattle.gate_log.specs.Journal.{JournalLaws, Within}
+use Rattle.gate_log.specs.Journal.{JournalLaws, IsChangeIn}
 use Rattle.nuc_base.specs.declared.kinds.Exit.{Exit}
 use Rattle.nuc_base.specs.declared.kinds.Outcome.{Outcome}
 use Rattle.nuc_base.specs.declared.status.Status.{Status}
@@ -43,14 +43,14 @@ use Rattle.deploy_state.specs.States.{OwnsLoaded, idle_device, loaded_device}
 use Rattle.session_boots.specs.Booted.{AsksFor}
 use Rattle.session_boots.specs.Lines.{id_of, lines_of}
 use Rattle.session_boots.specs.Ends.{LeftAt, LinesAt, StopsAt}
-use Rattle.session_boots.specs.Traces.{Acts, StandsForPrefix, StandsForMost, IsTrace}
+use Rattle.session_boots.specs.Traces.{ActTrace, StandsForPrefix, StandsForMost, IsTrace}
 use Rattle.session_boots.specs.declared.ends.Booted.{Booted}
 use Rattle.session_boots.specs.declared.ends.Booted.TheVariants as booted
 use Rattle.session_boots.specs.declared.ends.SessionFault.{SessionFault}
 use Rattle.session_boots.specs.declared.ends.SessionFault.TheVariants as over
 use Rattle.session_boots.proofs.Acting.{grows_none}
 use Rattle.session_boots.proofs.Joins.{acted, records_opened, went_on}
-use Rattle.session_boots.proofs.Told.{all_told, left_joined, lines_at_joined, stops_last}
+use Rattle.session_boots.proofs.Told.{all_printed, left_joined, lines_at_joined, stops_last}
 use Rattle.session_startup.specs.Ended.{ClosesAs, ClosesLast}
 use Rattle.session_transitions.specs.Kills.{KeepsRest}
 use Rattle.session_transitions.specs.Fails.{IsGivenUp}
@@ -61,18 +61,19 @@ use Rattle.session_admission.proofs.Opening.{accept_went}
 use Rattle.admission.specs.Takes.{LieElsewhere}
 use Rattle.admission.specs.declared.fault.Declined.{Declined}
 use Rattle.admission.proofs.Staying.{hand_stays}
-use Rattle.session_rollout.specs.Driven.{Course, DrivenLeft, OwnsDriven, driven_device}
+use Rattle.session_rollout.specs.Driven.{DrivenCourse, DrivenLeft, OwnsDriven, driven_device}
 use Rattle.session_rollout.specs.declared.driven.Driven.{Driven}
 use Rattle.session_rollout.specs.declared.driven.Driven.TheVariants as driven
 use Rattle.session_rollout.proofs.Joining.{Holds, left_killed, stops_killed, went_acting}
-use Rattle.session.specs.Calls.{AllHoldBoth, AnswersFor, AnswersOver, EndsClosed, EndsFor, IsOrEdge, IsPendingAs, Prints, SaysEnding, SaysLine}
+use Rattle.session.specs.Calls.{AllHoldBoth, DrivenStatus, GivenUpStatus, CloseEnding, DrivenEnding, IsOrEdge, IsPendingAs, LinesPrinted, SaysEnding, SaysLine}
 use Rattle.session.specs.Calls.{SaysRefusal, ChangesArtifactsAlone, StandsBehind, StandsWhole, opening_line}
 use Rattle.session.specs.Declines.{line_of_declined, status_of_declined}
-use Rattle.session.specs.Documents.{AcceptsFrom, AcceptsTaken, Begins, FitsFrom, Follows}
+use Rattle.session.specs.Documents.{AcceptsFrom, AcceptsTaken, PlanEnding, FitsFrom, TakenEnding}
 use Rattle.session.specs.Parts.{EndsPart, IsOver, IsUnbegun, Part, RanLeft, status_of_ran}
 use Rattle.session.specs.declared.ran.Ran.{Ran}
 use Rattle.session.specs.declared.ran.Ran.TheVariants as ran
-use Rattle.session.specs.Endings.{Ending, Closes, Restarts, Reboots, Fails, Breaks, Forgets, Starves, Declines, Full, Idle, IsBegun, is_failing}
+use Rattle.session.specs.Endings.{Ending, ByClose, ByRestart, ByReboot, ByDiskFault, BySinkFault, WantAfter, WantBefore, ByDecline, Full, Idle}
+use Rattle.session.specs.Endings.{IsBegun, is_failing}
 use Rattle.session.specs.Endings.{line_of_ending, status_of_ending}
 use Rattle.session.proofs.Accepted.{accepts_behind}
 use Rattle.session.proofs.Holding.{HoldsAll, HoldsBefore, all_before, spared_whole, went_holds, went_whole}
@@ -82,9 +83,9 @@ use Rattle.session.proofs.Statuses.{disk_opens, opens_gives}
 
 -- ---- the last record
 
-last_run : (d e : Device) (front : List Record) (r : Record) → Run d (front ++ r ∷ []) e → (c : Device) × Lawful c r e
+last_run : (d e : Device) (prefix : List Record) (r : Record) → Run d (prefix ++ r ∷ []) e → (c : Device) × Lawful c r e
 last_run d e [] r run = (d, subst (λ (x : Device). Lawful d r x) (sym run.2) run.1)
-last_run d e (s ∷ front) r run = last_run run.0 e front r run.2
+last_run d e (s ∷ prefix) r run = last_run run.0 e prefix r run.2
 
 -- of one record
 pub one_device : (d e : Device) (r : Record) → Run d (r ∷ []) e → e ≡ applied d r
@@ -129,7 +130,7 @@ pending_as d e some same = subst (λ (x : Device). IsPendingAs (id_of x) d) same
 -- ---- a deployment was driven
 
 module _ {J : Type 0} where
-  pub begun_for : (r : Result (Driven J) SessionFault) (ending : Ending) → EndsFor r ending → IsBegun ending
+  pub begun_for : (r : Result (Driven J) SessionFault) (ending : Ending) → DrivenEnding r ending → IsBegun ending
   begun_for (Ok (driven.Closed s o w)) ending (inl is) = subst IsBegun (sym is) tt
   begun_for (Ok (driven.Closed s o w)) ending (inr (inl is)) = subst IsBegun (sym is) tt
   begun_for (Ok (driven.Closed s o w)) ending (inr (inr is)) = subst IsBegun (sym is) tt
@@ -138,11 +139,11 @@ module _ {J : Type 0} where
   begun_for (Err over.Disk) ending is = subst IsBegun (sym is) tt
   begun_for (Err over.Output) ending is = subst IsBegun (sym is) tt
 
-pub ending_is : (J : Type 0) (e : SessionFault) (ending : Ending) → EndsFor {J = J} (Err e) ending → ending ≡ ending_over e
+pub ending_is : (J : Type 0) (e : SessionFault) (ending : Ending) → DrivenEnding {J = J} (Err e) ending → ending ≡ ending_over e
 ending_is J over.Disk ending is = is
 ending_is J over.Output ending is = is
 
-begun_fed : (ending : Ending) → IsBegun ending → ending ≢ Starves
+begun_fed : (ending : Ending) → IsBegun ending → ending ≢ WantBefore
 begun_fed ending begun is = subst IsBegun is begun
 
 over_ends : (p : SessionState) (e : SessionFault) (h : List TraceEvent) → EndsPart p (ending_over e) h
@@ -206,7 +207,7 @@ end_rises q status rose e = record {
   bare = e.bare;
   stopped = e.stopped;
   cut = e.cut;
-  told = e.told;
+  owes_none = e.owes_none;
   recorded = by e.recorded;
   restarts = e.restarts;
   over = e.over;
@@ -224,7 +225,7 @@ open_end q status rose bare opens recorded =
       bare = bare;
       stopped = λ stays. absurd (false≢true (sym stays ∙ gives.0));
       cut = λ is. gives.0;
-      told = λ closed. absurd (false≢true (sym closed ∙ opens));
+      owes_none = λ closed. absurd (false≢true (sym closed ∙ opens));
       recorded = by recorded;
       restarts = λ is. absurd (false≢true (sym gives.1 ∙ is));
       over = λ is. inr gives.0;
@@ -234,12 +235,12 @@ open_end q status rose bare opens recorded =
     by (inl none) = inl none
     by (inr is) = inr (opens, is)
 
-over_opens : (e : SessionFault) (status : Status) → AnswersOver e status → leaves_open status ≡ true
+over_opens : (e : SessionFault) (status : Status) → GivenUpStatus e status → leaves_open status ≡ true
 over_opens over.Disk status answers = disk_opens status answers
 over_opens over.Output status answers = ap leaves_open answers
 
 over_end : {D : Type 0} (entries : Image → List (List ℕ) → Type 0) (may_leave : D → Image → Type 0) (disk : D) (e : SessionFault) (p : SessionState)
-    (h : List TraceEvent) (status : Status) → IsBare (state_after p h) → LeftAt entries may_leave disk p h e → AnswersOver e status
+    (h : List TraceEvent) (status : Status) → IsBare (state_after p h) → LeftAt entries may_leave disk p h e → GivenUpStatus e status
     → IsEnd (state_after p h) status (is_failing (ending_over e))
 over_end entries may_leave disk over.Disk p h status bare left answers = open_end (state_after p h) status true bare (over_opens over.Disk status answers)
     (inr refl)
@@ -264,14 +265,14 @@ quits_left p before world told living next now lives status r rose k is given ke
 pub doubt_left : {J D : Type 0} (entries : Image → List (List ℕ) → Type 0) (may_leave : D → Image → Type 0) (e : SessionFault) (disk : D) (p : SessionState)
     (k : List TraceEvent) (plan : Plan) (before : Generation) (world : Components) (told : Told) (living : List ℕ) (status : Status) (r : Ran J)
     → r ≡ ran.Over status → IsBare (state_after (state_after p (Recorded (Accepted plan) ∷ [])) k)
-    → LeftAt entries may_leave disk p (k ++ Recorded (Accepted plan) ∷ []) e → AnswersOver e status
+    → LeftAt entries may_leave disk p (k ++ Recorded (Accepted plan) ∷ []) e → GivenUpStatus e status
     → RanLeft before r (is_failing (ending_over e)) (state_after p (k ++ Recorded (Accepted plan) ∷ [])) world told living
 doubt_left entries may_leave e disk p k plan before world told living status r is bare left answers =
     subst (λ (x : Ran _). RanLeft before x (is_failing (ending_over e)) (state_after p (k ++ Recorded (Accepted plan) ∷ [])) world told living) (sym is)
     (over_end entries may_leave disk e p (k ++ Recorded (Accepted plan) ∷ []) status
     (subst (λ (q : SessionState). IsBare q) (sym (left-append p k (Recorded (Accepted plan) ∷ []))) bare) left answers)
 
-pub over_answers : (e : SessionFault) (status : Status) → AnswersOver e status → IsOrEdge status (status_of_ending (ending_over e))
+pub over_answers : (e : SessionFault) (status : Status) → GivenUpStatus e status → IsOrEdge status (status_of_ending (ending_over e))
 over_answers over.Disk status answers = answers
 over_answers over.Output status answers = inl answers
 
@@ -293,7 +294,7 @@ module _ (p : SessionState) (h k : List TraceEvent) (q : SessionState) (none : r
       (on, pending_as (state_after p (k ++ h)).device e (asked_some p.device (state_after p (k ++ h)).device end (records_of (k ++ h)) on run) (same ∙ is))
 
   pub driven_ends : {J : Type 0} (world : Components) (told : Told) (living : List ℕ) (x : Driven J) (ending : Ending) → DrivenLeft x h q world told living →
-      EndsFor {J = J} (Ok x) ending → EndsPart p ending (k ++ h)
+      DrivenEnding {J = J} (Ok x) ending → EndsPart p ending (k ++ h)
   driven_ends world told living (driven.Closed s o w) ending left (inl is) =
       let on = closes_on o (closes_as o h left.closed) in
       subst (λ (e : Ending). EndsPart p e (k ++ h)) (sym is) (on, closed_none p.device (state_after p (k ++ h)).device o (records_of (k ++ h)) on run)
@@ -311,7 +312,7 @@ module _ (entries : Image → List (List ℕ) → Type 0) {D : Type 0} (may_leav
   pub most_of : (disk : D) (p : SessionState) (h : List TraceEvent) → Run p.device (records_of h) (state_after p h).device →
       StandsBehind entries may_leave disk p h → (c : Image) → may_leave disk c → StandsForMost entries p.device (records_of h) c
   most_of disk p h run behind c left = record {
-    front = records_of h;
+    prefix = records_of h;
     rest = [];
     split = sym (append-nil (records_of h));
     few = omega arith;
@@ -332,7 +333,7 @@ module _ (entries : Image → List (List ℕ) → Type 0) {D : Type 0} (may_leav
   edge_behind over.Output disk p h is left = left.2
 
   -- nothing is started behind a record that is in doubt
-  over_doubt : (e : SessionFault) (disk : D) (p : SessionState) (h : List TraceEvent) (status : Status) → AnswersOver e status →
+  over_doubt : (e : SessionFault) (disk : D) (p : SessionState) (h : List TraceEvent) (status : Status) → GivenUpStatus e status →
       LeftAt entries may_leave disk p h e →
       StandsBehind entries may_leave disk p h ⊎ ((gives_up status ≡ true) × StopsAt h)
   over_doubt over.Disk disk p h status answers left = inr ((opens_gives status (over_opens over.Disk status answers)).0, left.0)
@@ -343,7 +344,7 @@ module _ (entries : Image → List (List ℕ) → Type 0) (files : List ℕ → 
     (leaves : Ending → SessionState → Type 0) where
   -- a part at whose moments the artifacts are there
   abbrev pub HasFiles : Part entries files may_leave moment left_since old new a c u x p status leaves → Type 0
-  HasFiles part = Leaves moment left_since old new (StandsWhole entries p.device (records_of part.history))
+  HasFiles part = HasLeft moment left_since old new (StandsWhole entries p.device (records_of part.history))
 
   -- such a part that drives a deployment with these records
   abbrev pub PartFor : List Record → (Ending → Type 0) → Type 0
@@ -359,14 +360,14 @@ module _ (entries : Image → List (List ℕ) → Type 0) (files : List ℕ → 
   pub joined_on : {A : Type 0} (old mid new : D) (a b c : Option (List RunnerEntry)) (u v w : Option (List ℕ)) (p : SessionState) (h : List TraceEvent)
       (r : Result A SessionFault) (is : A → List TraceEvent → SessionState → Type 0)
       → IsTrace entries files may_leave moment left_since old mid a b p h → Appends u v (lines_of p.device (records_of h)) → Holds is h
-      → (two : Course entries files may_leave moment left_since mid new b c v w (state_after p h) r is)
-      → (both : Course entries files may_leave moment left_since old new a c u w p r is) × (both.history ≡ two.history ++ h)
+      → (two : DrivenCourse entries files may_leave moment left_since mid new b c v w (state_after p h) r is)
+      → (both : DrivenCourse entries files may_leave moment left_since old new a c u w p r is) × (both.history ≡ two.history ++ h)
   joined_on old mid new a b c u v w p h (Ok x) is one told holds two =
       let g = two.history in (
         record {
           history = g ++ h;
           trace = went_on entries files laws old mid new a b c p h g one two.trace;
-          lines = all_told u v w p h g one.run told two.lines;
+          lines = all_printed u v w p h g one.run told two.lines;
           left = subst (λ (q : SessionState). is x (g ++ h) q) (sym (left-append p g h)) (holds x g (state_after (state_after p h) g) two.left);
           bare = tt;
         },
@@ -397,7 +398,7 @@ pub first_of : (plan : Plan) (records : List Record) (h g : List TraceEvent) →
 first_of plan records h g first is = is ∙ records-append g h ∙ ap (λ (l : List Record). l ++ records_of g) first
 
 pub begins_by : (start : ℕ → ℕ) (plan : Plan) (ending : Ending) (records rest : List Record) → IsBegun ending → FitsFrom start plan →
-    records ≡ Accepted plan ∷ rest → TakesOnce true rest → Begins start plan ending records
+    records ≡ Accepted plan ∷ rest → TakesOnce true rest → PlanEnding start plan ending records
 begins_by start plan ending records rest begun fits is once = inr (begun, fits, (rest, is, once))
 
 module _ {D J : Type 0} {is_modelled : Bool} {seen : D → Image} {may_leave : D → Image → Type 0} {moment : D → ℕ} {left_since : D → ℕ → Image → Type 0}
@@ -431,7 +432,7 @@ module _ {D J : Type 0} {is_modelled : Bool} {seen : D → Image} {may_leave : D
   module _ (world : Components) (told : Told) (living : List ℕ) where
     -- from there it comes back
     pub placed_at : (old new : D) (a b : Option (List RunnerEntry)) (u v : Option (List ℕ)) (p : SessionState) (r : Result (Driven J) SessionFault) →
-        Course entries files may_leave moment left_since old new a b u v p r (λ x h q. DrivenLeft x h q world told living)
+        DrivenCourse entries files may_leave moment left_since old new a b u v p r (λ x h q. DrivenLeft x h q world told living)
         → IfOk r (λ x. (q : SessionState) × (h : List TraceEvent) × DrivenLeft x h q world told living)
     placed_at old new a b u v p (Ok x) course = (state_after p course.history, course.history, course.left)
     placed_at old new a b u v p (Err e) course = tt
@@ -441,15 +442,15 @@ module _ {D J : Type 0} {is_modelled : Bool} {seen : D → Image} {may_leave : D
     -- the course of a deployment, and files that are swept behind it
     pub parted : (old to new : D) (a b c : Option (List RunnerEntry)) (u v w x : Option (List ℕ)) (p : SessionState) (r : Result (Driven J) SessionFault)
         (ran : Ran J) (last : Components) (now : Told) (lives : List ℕ) (because : Ending → Type 0)
-        → Appends u v (opening_line p.device) → (course : Course entries files may_leave moment left_since old to a b v w p r
+        → Appends u v (opening_line p.device) → (course : DrivenCourse entries files may_leave moment left_since old to a b v w p r
         (λ y h q. DrivenLeft y h q world told living)) → p.over ≡ false
         → IfOk r (λ y. OwnsDriven is_modelled may_leave stands end y to)
         → IfOk r (λ y. (q : SessionState) → (h : List TraceEvent) → (before : Generation) → DrivenLeft y h q world told living → (k : List TraceEvent) ×
-        Acts q k b c × IsUnbegun q k × ((rose : Bool) → RanLeft before ran rose (state_after q k) last now lives))
+        ActTrace q k b c × IsUnbegun q k × ((rose : Bool) → RanLeft before ran rose (state_after q k) last now lives))
         → OnErr r (IsOver ran) → OnErr r (c ≡ b) → ChangesArtifactsAlone may_leave moment left_since to new →
-        IfOk r (λ y. AllHoldDevice (may_leave to) (driven_device y) → Leaves moment left_since to new (λ i. HoldsDevice i (driven_device y))) →
-        OnErr r (new ≡ to) → SaysEnding w x (status_of_ran ran) (λ e. EndsFor r e × because e) → (IsErrOf r over.Output → x ≡ w) →
-        AnswersFor r (status_of_ran ran)
+        IfOk r (λ y. AllHoldDevice (may_leave to) (driven_device y) → HasLeft moment left_since to new (λ i. HoldsDevice i (driven_device y))) →
+        OnErr r (new ≡ to) → SaysEnding w x (status_of_ran ran) (λ e. DrivenEnding r e × because e) → (IsErrOf r over.Output → x ≡ w) →
+        DrivenStatus r (status_of_ran ran)
         → PartFor entries files may_leave moment left_since old new a c u x p (status_of_ran ran)
         (λ ending q. RanLeft p.generation ran (is_failing ending) q last now lives) (records_of course.history) because
     parted old to new a b c u v w x p (Ok y) ran last now lives because started course fresh held ends over_is still after safe unswept says silent answers =
@@ -530,7 +531,7 @@ module _ {D J : Type 0} {is_modelled : Bool} {seen : D → Image} {may_leave : D
           },
           subst IsBegun is (begun_for {J = J} (Err e) says.0 says.1.0),
           refl,
-          (λ holds. subst (λ (z : D). Leaves moment left_since old z (StandsWhole entries p.device (records_of course.history))) (sym unswept)
+          (λ holds. subst (λ (z : D). HasLeft moment left_since old z (StandsWhole entries p.device (records_of course.history))) (sym unswept)
               (went_whole laws files entries apart old to a b p course.history course.trace holds)),
           subst because is says.1.1,
         )
@@ -542,15 +543,15 @@ module _ {D : Type 0} (entries : Image → List (List ℕ) → Type 0) (files : 
     (laws : DiskLaws is_modelled seen may_leave moment left_since) where
   -- nothing changes at all
   pub still_whole : (d : D) (p : SessionState) → ((c : Image) → may_leave d c → StandsFor entries c p.device) → AllHoldDevice (may_leave d) p.device →
-      Leaves moment left_since d d (StandsWhole entries p.device [])
+      HasLeft moment left_since d d (StandsWhole entries p.device [])
   still_whole d p stands holds =
       weaker laws d d (may_leave d) (StandsWhole entries p.device [])
-      (λ c left. (record { front = []; rest = []; split = refl; device = p.device; run = refl; stands = stands c left }, holds c left))
+      (λ c left. (record { prefix = []; rest = []; split = refl; device = p.device; run = refl; stands = stands c left }, holds c left))
       (at_start laws d)
 
   pub still_files : (d : D) (p : SessionState) (records : List Record) → records ≡ [] → ((c : Image) → may_leave d c → StandsFor entries c p.device) →
-      AllHoldDevice (may_leave d) p.device → Leaves moment left_since d d (StandsWhole entries p.device records)
-  still_files d p records none stands holds = subst (λ (l : List Record). Leaves moment left_since d d (StandsWhole entries p.device l)) (sym none)
+      AllHoldDevice (may_leave d) p.device → HasLeft moment left_since d d (StandsWhole entries p.device records)
+  still_files d p records none stands holds = subst (λ (l : List Record). HasLeft moment left_since d d (StandsWhole entries p.device l)) (sym none)
       (still_whole d p stands holds)
 
   -- the same status, which the result has
@@ -558,8 +559,8 @@ module _ {D : Type 0} (entries : Image → List (List ℕ) → Type 0) (files : 
       (leaves : Ending → SessionState → Type 0) where
     -- files may be taken in, and children may be killed
     nothing_part : (ending : Ending) (k : List TraceEvent) → ChangesArtifactsAlone may_leave moment left_since old new
-        → ((c : Image) → may_leave new c → StandsFor entries c p.device) → Acts p k l m → IsUnbegun p k → IsOrEdge given (status_of_ending ending)
-        → Prints u v p.device [] ending given (StandsBehind entries may_leave new p []) → EndsPart p ending k → leaves ending (state_after p k)
+        → ((c : Image) → may_leave new c → StandsFor entries c p.device) → ActTrace p k l m → IsUnbegun p k → IsOrEdge given (status_of_ending ending)
+        → LinesPrinted u v p.device [] ending given (StandsBehind entries may_leave new p []) → EndsPart p ending k → leaves ending (state_after p k)
         → Part entries files may_leave moment left_since old new l m u v p status leaves
     nothing_part ending k before stands acts unbegun answers prints ends left =
         let trace = acted entries files laws new l m p k stands acts in
@@ -584,8 +585,8 @@ module _ {D : Type 0} (entries : Image → List (List ℕ) → Type 0) (files : 
         }
 
     pub nothing_parted : (ending : Ending) (k : List TraceEvent) → ChangesArtifactsAlone may_leave moment left_since old new
-        → ((c : Image) → may_leave new c → StandsFor entries c p.device) → Acts p k l m → IsUnbegun p k → IsOrEdge given (status_of_ending ending)
-        → Prints u v p.device [] ending given (StandsBehind entries may_leave new p []) → EndsPart p ending k → leaves ending (state_after p k)
+        → ((c : Image) → may_leave new c → StandsFor entries c p.device) → ActTrace p k l m → IsUnbegun p k → IsOrEdge given (status_of_ending ending)
+        → LinesPrinted u v p.device [] ending given (StandsBehind entries may_leave new p []) → EndsPart p ending k → leaves ending (state_after p k)
         → (part : Part entries files may_leave moment left_since old new l m u v p status leaves) × (part.ending ≡ ending) × (records_of part.history ≡ [])
     unfolding nothing_part
     nothing_parted ending k before stands acts unbegun answers prints ends left =
@@ -593,22 +594,22 @@ module _ {D : Type 0} (entries : Image → List (List ℕ) → Type 0) (files : 
 
     -- The document is not taken: that is said, or there is no memory for its line.
     pub declined_parted : (start : ℕ → ℕ) (declined : Declined) (k : List TraceEvent) → ChangesArtifactsAlone may_leave moment left_since old new
-        → ((c : Image) → may_leave new c → StandsFor entries c p.device) → Acts p k l m → IsUnbegun p k → p.device.pending ≡ None
+        → ((c : Image) → may_leave new c → StandsFor entries c p.device) → ActTrace p k l m → IsUnbegun p k → p.device.pending ≡ None
         → SaysRefusal u v given (status_of_declined declined) (line_of_declined declined) → ((ending : Ending) → leaves ending (state_after p k))
-        → (part : Part entries files may_leave moment left_since old new l m u v p status leaves) × Follows start (Err declined) part.ending
-        (records_of part.history) × (records_of part.history ≡ []) × (part.ending ≢ Fails)
+        → (part : Part entries files may_leave moment left_since old new l m u v p status leaves) × TakenEnding start (Err declined) part.ending
+        (records_of part.history) × (records_of part.history ≡ []) × (part.ending ≢ ByDiskFault)
     unfolding nothing_part
     declined_parted start declined k before stands acts unbegun none (inl said) left = (
-      nothing_part (Declines declined) k before stands acts unbegun said.1
-          (said_prints (StandsBehind entries may_leave new p []) u v p.device (Declines declined) given stands (λ is. cc) none said.0) unbegun
-          (left (Declines declined)),
+      nothing_part (ByDecline declined) k before stands acts unbegun said.1
+          (said_prints (StandsBehind entries may_leave new p []) u v p.device (ByDecline declined) given stands (λ is. cc) none said.0) unbegun
+          (left (ByDecline declined)),
       (inl refl, acts.none),
       acts.none,
       (λ is. cc),
     )
     declined_parted start declined k before stands acts unbegun none (inr short) left = (
-      nothing_part Starves k before stands acts unbegun (inl short.0)
-          (starved_prints (StandsBehind entries may_leave new p []) u v p.device given stands short.1) unbegun (left Starves),
+      nothing_part WantBefore k before stands acts unbegun (inl short.0)
+          (starved_prints (StandsBehind entries may_leave new p []) u v p.device given stands short.1) unbegun (left WantBefore),
       (inr refl, acts.none),
       acts.none,
       (λ is. cc),
@@ -619,10 +620,10 @@ module _ {D : Type 0} (entries : Image → List (List ℕ) → Type 0) (files : 
     -- A plan is given back for want of memory, where the journal may have been begun anew with the device.
     pub starved_parted : (old new : D) (l m : Option (List RunnerEntry)) (u v : Option (List ℕ)) (p : SessionState) (status : Status)
         (leaves : Ending → SessionState → Type 0) (plan : Plan) (k : List TraceEvent) → status ≡ statuses.Memory
-        → Leaves moment left_since old new (LeavesSame may_leave files entries old p.device) → ((c : Image) → may_leave new c → StandsFor entries c p.device)
-        → Acts p k l m → IsUnbegun p k → v ≡ u → leaves Starves (state_after p k)
+        → HasLeft moment left_since old new (LeavesSame may_leave files entries old p.device) → ((c : Image) → may_leave new c → StandsFor entries c p.device)
+        → ActTrace p k l m → IsUnbegun p k → v ≡ u → leaves WantBefore (state_after p k)
         → (part : Part entries files may_leave moment left_since old new l m u v p status leaves)
-        × (part.ending ≡ Starves) × (records_of part.history ≡ []) ×
+        × (part.ending ≡ WantBefore) × (records_of part.history ≡ []) ×
         (AllHoldBoth (may_leave old) p.device plan.items → HasFiles entries files may_leave moment left_since old new l m u v p status leaves part)
     starved_parted old new l m u v p status leaves plan k same leaving stands acts unbegun silent left = (
       record {
@@ -632,9 +633,9 @@ module _ {D : Type 0} (entries : Image → List (List ℕ) → Type 0) (files : 
         history = k;
         trace = whole;
         after = start_spares laws (IsBelow artifacts) new;
-        ending = Starves;
+        ending = WantBefore;
         answers = inl same;
-        prints = prints_as u v p.device (records_of k) Starves status statuses.Memory (StandsBehind entries may_leave new p [])
+        prints = prints_as u v p.device (records_of k) WantBefore status statuses.Memory (StandsBehind entries may_leave new p [])
             (StandsBehind entries may_leave new p k) acts.none same (λ sure. behind)
             (starved_prints (StandsBehind entries may_leave new p []) u v p.device statuses.Memory stands silent);
         ends = unbegun;
@@ -658,12 +659,12 @@ module _ {D : Type 0} (entries : Image → List (List ℕ) → Type 0) (files : 
           proper = tt;
           run = refl;
           course = weaker laws old new (LeavesSame may_leave files entries old p.device)
-              (After (may_leave old) (Within files (StandsForPrefix entries p.device [])))
+              (IsAfter (may_leave old) (IsChangeIn files (StandsForPrefix entries p.device [])))
               (λ c was. (
                 was.0,
                 was.1,
                 record {
-                  here = record { front = []; rest = []; split = refl; device = p.device; run = refl; stands = was.2.here };
+                  here = record { prefix = []; rest = []; split = refl; device = p.device; run = refl; stands = was.2.here };
                   others = was.2.others;
                 },
               ))
@@ -680,14 +681,14 @@ module _ {D : Type 0} (entries : Image → List (List ℕ) → Type 0) (files : 
         (d : Device) (world : Components) (told : Told) (living : List ℕ) (plan : Plan) (h k : List TraceEvent) (status : Status)
         (leaves : Ending → SessionState → Type 0)
         → FitsFrom start plan → IsOpen p d world told living → Allowed d (Accepted plan) →
-        Leaves moment left_since old new (LeavesEither may_leave files entries old d (applied d (Accepted plan)))
+        HasLeft moment left_since old new (LeavesEither may_leave files entries old d (applied d (Accepted plan)))
         → d.pending ≡ None → records_of h ≡ Accepted plan ∷ [] → Run p.device (records_of h) (state_after p h).device → LinesAt u v p.device (records_of h) e
-        → LeftAt entries may_leave new p h e → Acts (state_after p (Recorded (Accepted plan) ∷ [])) k list now → AllByRecursion IsLast k
+        → LeftAt entries may_leave new p h e → ActTrace (state_after p (Recorded (Accepted plan) ∷ [])) k list now → AllByRecursion IsLast k
         → KeepsRest (state_after p (Recorded (Accepted plan) ∷ [])) (state_after (state_after p (Recorded (Accepted plan) ∷ [])) k)
-        → SaysLine v w status (line_of_ending (ending_over e)) → (e ≡ over.Output → w ≡ v) → AnswersOver e status
+        → SaysLine v w status (line_of_ending (ending_over e)) → (e ≡ over.Output → w ≡ v) → GivenUpStatus e status
         → ((LeftAt entries may_leave new p (k ++ Recorded (Accepted plan) ∷ []) e) → leaves (ending_over e)
         (state_after p (k ++ Recorded (Accepted plan) ∷ [])))
-        → (t : (part : Part entries files may_leave moment left_since old new list now u w p status leaves) × Begins start plan part.ending
+        → (t : (part : Part entries files may_leave moment left_since old new list now u w p status leaves) × PlanEnding start plan part.ending
         (records_of part.history))
         × (AllHoldBoth (may_leave old) p.device plan.items → HasFiles entries files may_leave moment left_since old new list now u w p status leaves t.0)
         × (t.0.ending ≡ ending_over e) × (records_of t.0.history ≡ Accepted plan ∷ [])
@@ -773,23 +774,23 @@ module _ {D : Type 0} (entries : Image → List (List ℕ) → Type 0) (files : 
   -- a plan that was taken in is driven
   pub taken_behind : {X Y : Type 0} (start : ℕ → ℕ) (old mid new : D) (a b : Option (List RunnerEntry)) (u v : Option (List ℕ)) (p : SessionState)
       (status : Status) (leaves : Ending → SessionState → Type 0) (d : Device) (plan : code.Plan) → ChangesArtifactsAlone may_leave moment left_since old mid
-      → (AllHoldDevice (may_leave old) p.device → (records : List Record) → Leaves moment left_since old mid (StandsWhole entries p.device records))
+      → (AllHoldDevice (may_leave old) p.device → (records : List Record) → HasLeft moment left_since old mid (StandsWhole entries p.device records))
       → (AllHoldDevice (may_leave old) p.device → AllHoldBoth (may_leave mid) p.device (plan_view plan).items)
-      → (s : (part : Part entries files may_leave moment left_since mid new a b u v p status leaves) × Begins start (plan_view plan) part.ending
+      → (s : (part : Part entries files may_leave moment left_since mid new a b u v p status leaves) × PlanEnding start (plan_view plan) part.ending
       (records_of part.history))
       × (AllHoldBoth (may_leave mid) p.device (plan_view plan).items → HasFiles entries files may_leave moment left_since mid new a b u v p status leaves s.0)
-      × (s.0.ending ≡ Fails → X) × AcceptsFrom entries may_leave moment left_since mid new d start (plan_view plan) s.0.ending (records_of s.0.history)
+      × (s.0.ending ≡ ByDiskFault → X) × AcceptsFrom entries may_leave moment left_since mid new d start (plan_view plan) s.0.ending (records_of s.0.history)
       → (X → Y)
-      → (t : (part : Part entries files may_leave moment left_since old new a b u v p status leaves) × Follows start (Ok plan) part.ending
+      → (t : (part : Part entries files may_leave moment left_since old new a b u v p status leaves) × TakenEnding start (Ok plan) part.ending
       (records_of part.history))
       × (AllHoldDevice (may_leave old) p.device → HasFiles entries files may_leave moment left_since old new a b u v p status leaves t.0)
-      × (t.0.ending ≡ Fails → Y) × AcceptsTaken entries may_leave moment left_since old new d start (Ok plan) t.0.ending (records_of t.0.history)
+      × (t.0.ending ≡ ByDiskFault → Y) × AcceptsTaken entries may_leave moment left_since old new d start (Ok plan) t.0.ending (records_of t.0.history)
   taken_behind start old mid new a b u v p status leaves d plan first whole gives drives on =
       let c = drives.0.0 in
       let is = StandsWhole entries p.device (records_of c.history) in (
         (parted_behind old mid new a b u v p status leaves first c, drives.0.1),
         (λ holds. joined laws old mid new is is is (whole holds (records_of c.history)) (drives.1 (gives holds)) (λ i w. w) (λ i w. w)),
         (λ fails. on (drives.2 fails)),
-        accepts_behind entries laws old mid new (After (may_leave old) (Spares (IsBelow artifacts))) first d start (plan_view plan) c.ending
+        accepts_behind entries laws old mid new (IsAfter (may_leave old) (IsSameBut (IsBelow artifacts))) first d start (plan_view plan) c.ending
             (records_of c.history) drives.3,
       )

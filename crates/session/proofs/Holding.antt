@@ -4,15 +4,15 @@ use Rattle.std.specs.List.{AllByRecursion}
 use Rattle.std.proofs.Common.{◌≡◌, ◌∙◌, refl, sym, ap, subst}
 use Rattle.std.proofs.lemmas.Bool.{false≢true}
 use Rattle.std.proofs.lemmas.List.{append-nil}
-use Rattle.disk_model.specs.Disk.{Image, After, DiskLaws, Leaves}
+use Rattle.disk_model.specs.Disk.{Image, IsAfter, DiskLaws, HasLeft}
 use Rattle.disk_model.specs.Listing.{artifacts, IsBelow}
 use Rattle.disk_model.specs.Moments.{now, tells_of, weaker}
-use Rattle.disk_model.specs.Spares.{Spares}
-use Rattle.gate_log.specs.Journal.{JournalLaws, Within}
+use Rattle.disk_model.specs.Spares.{IsSameBut}
+use Rattle.gate_log.specs.Journal.{JournalLaws, IsChangeIn}
 use Rattle.nuc_base.specs.declared.kinds.Outcome.{Outcome}
 use Rattle.records.specs.Stored.{Item, Plan, Record, Accepted, BootBegun, BootEnded, Activating, StepFailed, Failing, FailingBack, Closed}
 use Rattle.device.specs.Devices.{Device, Pending}
-use Rattle.device.specs.Lawful.{Run, activated, applied, begun, boot_ended, close_pending, count_failure, on_pending, rolled, takes_plan, turned_back}
+use Rattle.device.specs.Lawful.{Run, activated, applied, begun, boot_ended, close_pending, count_failure, on_pending, rolled, takes_plan, sent_back}
 use Rattle.device.specs.Standing.{StandsFor}
 use Rattle.device.proofs.Course.{counted_plan, ended_plan}
 use Rattle.artifact_store.specs.Holding.{AllHoldDevice, AllHoldItems, HoldsDevice, HoldsItems}
@@ -60,7 +60,7 @@ holds_applied image d (BootEnded n e) h holds = holds_on (boot_ended e) (ended_p
 holds_applied image d Activating h holds = holds_on activated (λ q. refl) image d h
 holds_applied image d (StepFailed n s e) h holds = holds_on (count_failure d.set n) (counted_plan d.set n) image d h
 holds_applied image d (Failing n) h holds = holds_on rolled (λ q. refl) image d h
-holds_applied image d (FailingBack n) h holds = holds_on (turned_back d.origin d.set) (λ q. refl) image d h
+holds_applied image d (FailingBack n) h holds = holds_on (sent_back d.origin d.set) (λ q. refl) image d h
 holds_applied image d (Closed o) h holds = holds_closed image d o d.pending refl h
 holds_applied image d _ h holds = record { set = h.set; pending = h.pending }
 
@@ -69,12 +69,12 @@ holds_run image [] d e run h holds = subst (λ (x : Device). HoldsDevice image x
 holds_run image (r ∷ records) d e run h holds =
     holds_run image records run.0 e run.2 (subst (λ (x : Device). HoldsDevice image x) (sym run.1.leaves) (holds_applied image d r h holds.0)) holds.1
 
-holds_front : (image : Image) (front rest records : List Record) → records ≡ front ++ rest → HoldsAll image records → HoldsAll image front
-holds_front image front rest records split holds = by front (subst (λ (l : List Record). HoldsAll image l) split holds)
+holds_prefix : (image : Image) (prefix rest records : List Record) → records ≡ prefix ++ rest → HoldsAll image records → HoldsAll image prefix
+holds_prefix image prefix rest records split holds = by prefix (subst (λ (l : List Record). HoldsAll image l) split holds)
   where
-    by : (front : List Record) → HoldsAll image (front ++ rest) → HoldsAll image front
+    by : (prefix : List Record) → HoldsAll image (prefix ++ rest) → HoldsAll image prefix
     by [] holds = tt
-    by (r ∷ front) holds = (holds.0, by front holds.1)
+    by (r ∷ prefix) holds = (holds.0, by prefix holds.1)
 
 -- records of which none accepts a plan
 holds_none : (image : Image) (records : List Record) → TakesOnce true records → HoldsAll image records
@@ -128,8 +128,8 @@ none_before images d records once holds c left = record { device = holds c left;
 
 -- two things that hold at each moment
 pub both_leave : {D : Type 0} {moment : D → ℕ} {left_since : D → ℕ → Image → Type 0} (old new : D) (P Q : Image → Type 0) →
-    Leaves moment left_since old new P → Leaves moment left_since old new Q
-    → Leaves moment left_since old new (λ c. P c × Q c)
+    HasLeft moment left_since old new P → HasLeft moment left_since old new Q
+    → HasLeft moment left_since old new (λ c. P c × Q c)
 both_leave old new P Q one two = record { later = one.later; each = λ c left. (one.each c left, two.each c left); joins = one.joins; keeps = one.keeps }
 
 module _ {D : Type 0} {is_modelled : Bool} {seen : D → Image} {may_leave : D → Image → Type 0} {moment : D → ℕ} {left_since : D → ℕ → Image → Type 0}
@@ -138,48 +138,49 @@ module _ {D : Type 0} {is_modelled : Bool} {seen : D → Image} {may_leave : D �
   -- while the records are kept
   pub went_whole : (old new : D) (a b : Option (List RunnerEntry)) (p : SessionState) (h : List TraceEvent) →
       IsTrace entries files may_leave moment left_since old new a b p h
-      → ((c : Image) → may_leave old c → HoldsBefore c p.device (records_of h)) → Leaves moment left_since old new (StandsWhole entries p.device (records_of h))
+      → ((c : Image) → may_leave old c → HoldsBefore c p.device (records_of h)) →
+      HasLeft moment left_since old new (StandsWhole entries p.device (records_of h))
   went_whole old new a b p h trace holds =
-      weaker laws old new (After (may_leave old) (Within files (StandsForPrefix entries p.device (records_of h))))
+      weaker laws old new (IsAfter (may_leave old) (IsChangeIn files (StandsForPrefix entries p.device (records_of h))))
       (StandsWhole entries p.device (records_of h)) one trace.course
     where
-      one : (c : Image) → After (may_leave old) (Within files (StandsForPrefix entries p.device (records_of h))) c →
+      one : (c : Image) → IsAfter (may_leave old) (IsChangeIn files (StandsForPrefix entries p.device (records_of h))) c →
           StandsWhole entries p.device (records_of h) c
       one c was =
           let f = was.2.here in
           let before = holds was.0 was.1 in
           let device = device_stays files apart was.0 c was.2.others p.device before.device in
           let plans = all_stay files apart was.0 c was.2.others (records_of h) before.plans in
-          (f, holds_run c f.front p.device f.device f.run device (holds_front c f.front f.rest (records_of h) f.split plans))
+          (f, holds_run c f.prefix p.device f.device f.run device (holds_prefix c f.prefix f.rest (records_of h) f.split plans))
 
   -- and then
   pub went_holds : (old new : D) (a b : Option (List RunnerEntry)) (p : SessionState) (h : List TraceEvent) →
       IsTrace entries files may_leave moment left_since old new a b p h
       → ((c : Image) → may_leave old c → HoldsBefore c p.device (records_of h)) → AllHoldDevice (may_leave new) (state_after p h).device
   went_holds old new a b p h trace holds c left =
-      let was = now laws old new (After (may_leave old) (Within files (StandsForPrefix entries p.device (records_of h)))) trace.course c left in
+      let was = now laws old new (IsAfter (may_leave old) (IsChangeIn files (StandsForPrefix entries p.device (records_of h)))) trace.course c left in
       let before = holds was.0 was.1 in
       holds_run c (records_of h) p.device (state_after p h).device trace.run (device_stays files apart was.0 c was.2.others p.device before.device)
       (all_stay files apart was.0 c was.2.others (records_of h) before.plans)
 
-  -- while files of artifacts alone change, with the device of a front of the records in hand
+  -- while files of artifacts alone change, with the device of a prefix of the records in hand
   module _ {J : Type 0} {holds_none : Image → Type 0} {is_damaged : Image → ℕ → Type 0} {stands : J → Image → List (List ℕ) → Type 0} {end : J → ℕ}
       (journal : JournalLaws files entries holds_none is_damaged stands end) where
-    pub spared_whole : (log : J) (old new : D) (d e : Device) (records front rest : List Record) → OwnsJournal is_modelled may_leave stands end log old e →
-        records ≡ front ++ rest → Run d front e
-        → ChangesArtifactsAlone may_leave moment left_since old new → Leaves moment left_since old new (λ c. HoldsDevice c e) →
-        Leaves moment left_since old new (StandsWhole entries d records)
-    spared_whole log old new d e records front rest hand split run spared safe =
-        weaker laws old new (λ c. After (may_leave old) (Spares (IsBelow artifacts)) c × HoldsDevice c e) (StandsWhole entries d records) one
-        (both_leave old new (After (may_leave old) (Spares (IsBelow artifacts))) (λ c. HoldsDevice c e) spared safe)
+    pub spared_whole : (log : J) (old new : D) (d e : Device) (records prefix rest : List Record) → OwnsJournal is_modelled may_leave stands end log old e →
+        records ≡ prefix ++ rest → Run d prefix e
+        → ChangesArtifactsAlone may_leave moment left_since old new → HasLeft moment left_since old new (λ c. HoldsDevice c e) →
+        HasLeft moment left_since old new (StandsWhole entries d records)
+    spared_whole log old new d e records prefix rest hand split run spared safe =
+        weaker laws old new (λ c. IsAfter (may_leave old) (IsSameBut (IsBelow artifacts)) c × HoldsDevice c e) (StandsWhole entries d records) one
+        (both_leave old new (IsAfter (may_leave old) (IsSameBut (IsBelow artifacts))) (λ c. HoldsDevice c e) spared safe)
       where
-        one : (c : Image) → After (may_leave old) (Spares (IsBelow artifacts)) c × HoldsDevice c e → StandsWhole entries d records c
+        one : (c : Image) → IsAfter (may_leave old) (IsSameBut (IsBelow artifacts)) c × HoldsDevice c e → StandsWhole entries d records c
         one c both =
             let was = both.0 in
             let means = hand.means (tells_of laws old was.0 was.1) in
             let on = journal.depends log was.0 c hand.payloads (λ name is. was.2 name (apart name is)) (hand.behind.each was.0 was.1) in (
               record {
-                front = front;
+                prefix = prefix;
                 rest = rest;
                 split = split;
                 device = e;
@@ -192,9 +193,9 @@ module _ {D : Type 0} {is_modelled : Bool} {seen : D → Image} {may_leave : D �
     -- while the files of a document are taken in
     pub taken_whole : (log : J) (old new : D) (d : Device) (p : SessionState) → p.device ≡ d → OwnsJournal is_modelled may_leave stands end log old d →
         ChangesArtifactsAlone may_leave moment left_since old new
-        → (AllHoldDevice (may_leave old) d → Leaves moment left_since old new (λ c. HoldsDevice c d)) → AllHoldDevice (may_leave old) p.device →
+        → (AllHoldDevice (may_leave old) d → HasLeft moment left_since old new (λ c. HoldsDevice c d)) → AllHoldDevice (may_leave old) p.device →
         (records : List Record)
-        → Leaves moment left_since old new (StandsWhole entries p.device records)
+        → HasLeft moment left_since old new (StandsWhole entries p.device records)
     taken_whole log old new d p same hand spared safe holds records =
         spared_whole log old new p.device d records [] records hand refl (sym same) spared
         (safe (subst (λ (e : Device). AllHoldDevice (may_leave old) e) same holds))
@@ -203,7 +204,7 @@ module _ {D : Type 0} {is_modelled : Bool} {seen : D → Image} {may_leave : D �
 pub taken_both : {D : Type 0} {is_modelled : Bool} {seen : D → Image} {may_leave : D → Image → Type 0} {moment : D → ℕ} {left_since : D → ℕ → Image → Type 0}
     → DiskLaws is_modelled seen may_leave moment left_since
     → (old new : D) (d : Device) (p : SessionState) (items : List Item) → p.device ≡ d →
-    (AllHoldDevice (may_leave old) d → Leaves moment left_since old new (λ c. HoldsDevice c d))
+    (AllHoldDevice (may_leave old) d → HasLeft moment left_since old new (λ c. HoldsDevice c d))
     → (AllHoldDevice (may_leave old) d → AllHoldItems (may_leave new) items) → AllHoldDevice (may_leave old) p.device →
     AllHoldBoth (may_leave new) p.device items
 taken_both {may_leave} {moment} {left_since} laws old new d p items same safe files holds =

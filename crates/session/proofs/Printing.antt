@@ -17,20 +17,20 @@ use Rattle.session_boots.specs.declared.ends.SessionFault.TheVariants as over
 use Rattle.artifact_store.specs.declared.fault.StageFault.TheVariants as stage
 use Rattle.admission.specs.declared.fault.Declined.{Declined}
 use Rattle.admission.specs.declared.fault.Declined.TheVariants.{Unstaged}
-use Rattle.session.specs.Calls.{AnswersOver, IsOrEdge, Prints, SaysLine, SaysRefusal, call_lines, opening_line, resumed_line}
+use Rattle.session.specs.Calls.{GivenUpStatus, IsOrEdge, LinesPrinted, SaysLine, SaysRefusal, call_lines, opening_line, resumed_line}
 use Rattle.session.specs.Declines.{large_line, line_of_declined, mismatch_line, status_of_declined}
-use Rattle.session.specs.Endings.{Ending, Closes, Restarts, Reboots, Fails, Breaks, Forgets, Starves, Declines, Full, Idle, line_of_ending}
+use Rattle.session.specs.Endings.{Ending, ByClose, ByRestart, ByReboot, ByDiskFault, BySinkFault, WantAfter, WantBefore, ByDecline, Full, Idle, line_of_ending}
 
-front_joined : (a b c : Option (List ℕ)) (x y : List ℕ) → Appends a b x → AppendsPrefix b c y → AppendsPrefix a c (x ++ y)
-front_joined a b c x y one two = (
+prefix_joined : (a b c : Option (List ℕ)) (x y : List ℕ) → Appends a b x → AppendsPrefix b c y → AppendsPrefix a c (x ++ y)
+prefix_joined a b c x y one two = (
   x ++ two.0,
   two.1,
   ap (λ (l : List ℕ). x ++ l) two.2 ∙ sym (append_assoc x two.0 two.1),
   Appends-trans a b c x two.0 one two.3,
 )
 
-front_longer : (a b : Option (List ℕ)) (x y : List ℕ) → AppendsPrefix a b x → AppendsPrefix a b (x ++ y)
-front_longer a b x y one = (one.0, one.1 ++ y, ap (λ (l : List ℕ). l ++ y) one.2 ∙ append_assoc one.0 one.1 y, one.3)
+prefix_longer : (a b : Option (List ℕ)) (x y : List ℕ) → AppendsPrefix a b x → AppendsPrefix a b (x ++ y)
+prefix_longer a b x y one = (one.0, one.1 ++ y, ap (λ (l : List ℕ). l ++ y) one.2 ∙ append_assoc one.0 one.1 y, one.3)
 
 -- ---- one line
 
@@ -81,35 +81,35 @@ opening_none a d none = subst (λ (o : Option Pending). Appends a a (elim o [ No
 
 -- ---- the lines of a call
 
-lines_are : (d : Device) (records : List Record) (ending : Ending) → ending ≢ Starves → opening_line d ++ (lines_of d records ++ line_of_ending ending)
+lines_are : (d : Device) (records : List Record) (ending : Ending) → ending ≢ WantBefore → opening_line d ++ (lines_of d records ++ line_of_ending ending)
     ≡ call_lines d records ending
-lines_are d records (Closes o) fed = refl
-lines_are d records (Restarts id) fed = refl
-lines_are d records (Reboots id) fed = refl
-lines_are d records Fails fed = refl
-lines_are d records Breaks fed = refl
-lines_are d records Forgets fed = refl
-lines_are d records Starves fed = absurd (fed refl)
-lines_are d records (Declines x) fed = refl
+lines_are d records (ByClose o) fed = refl
+lines_are d records (ByRestart id) fed = refl
+lines_are d records (ByReboot id) fed = refl
+lines_are d records ByDiskFault fed = refl
+lines_are d records BySinkFault fed = refl
+lines_are d records WantAfter fed = refl
+lines_are d records WantBefore fed = absurd (fed refl)
+lines_are d records (ByDecline x) fed = refl
 lines_are d records (Full at) fed = refl
 lines_are d records Idle fed = refl
 
 -- the lines of some of the records, and one behind them
 told_prints : (sure : Type 0) (a b c e : Option (List ℕ)) (d : Device) (records told rest : List Record) (ending : Ending) (status : Status) →
-    (rest ≡ [] → sure) → ending ≢ Starves → Appends a b (opening_line d) → Appends b c (lines_of d told)
-    → records ≡ told ++ rest → length rest ≤ 1 → (ending ≢ Fails → rest ≡ []) → SaysLine c e status (line_of_ending ending) →
-    Prints a e d records ending status sure
+    (rest ≡ [] → sure) → ending ≢ WantBefore → Appends a b (opening_line d) → Appends b c (lines_of d told)
+    → records ≡ told ++ rest → length rest ≤ 1 → (ending ≢ ByDiskFault → rest ≡ []) → SaysLine c e status (line_of_ending ending) →
+    LinesPrinted a e d records ending status sure
 told_prints sure a b c e d records told rest ending status stable fed before lines split few all says =
     let line = line_of_ending ending in
     let same = lines_are d told ending fed in
     record {
-      told = told;
+      printed_records = told;
       rest = rest;
       split = split;
       few = few;
       all = all;
-      front = subst (λ (l : List ℕ). AppendsPrefix a e l) same
-          (front_joined a b e (opening_line d) (lines_of d told ++ line) before (front_joined b c e (lines_of d told) line lines says.0));
+      prefix = subst (λ (l : List ℕ). AppendsPrefix a e l) same
+          (prefix_joined a b e (opening_line d) (lines_of d told ++ line) before (prefix_joined b c e (lines_of d told) line lines says.0));
       whole = λ well. subst (λ (l : List ℕ). Appends a e l) same
           (Appends-trans a b e (opening_line d) (lines_of d told ++ line) before (Appends-trans b c e (lines_of d told) line lines (says.1 well)));
       stable = stable;
@@ -117,86 +117,89 @@ told_prints sure a b c e d records told rest ending status stable fed before lin
 
 -- those of all
 pub all_prints : (sure : Type 0) (a b c e : Option (List ℕ)) (d : Device) (records : List Record) (ending : Ending) (status : Status) → sure →
-    ending ≢ Starves → Appends a b (opening_line d) → Appends b c (lines_of d records)
-    → SaysLine c e status (line_of_ending ending) → Prints a e d records ending status sure
+    ending ≢ WantBefore → Appends a b (opening_line d) → Appends b c (lines_of d records)
+    → SaysLine c e status (line_of_ending ending) → LinesPrinted a e d records ending status sure
 all_prints sure a b c e d records ending status stable fed before lines says =
     told_prints sure a b c e d records records [] ending status (λ none. stable) fed before lines (sym (append-nil records)) (omega arith) (λ other. refl) says
 
 -- no record was kept, and none was pending
-pub said_prints : (sure : Type 0) (a b : Option (List ℕ)) (d : Device) (ending : Ending) (status : Status) → sure → ending ≢ Starves → d.pending ≡ None →
-    SaysLine a b status (line_of_ending ending) → Prints a b d [] ending status sure
+pub said_prints : (sure : Type 0) (a b : Option (List ℕ)) (d : Device) (ending : Ending) (status : Status) → sure → ending ≢ WantBefore → d.pending ≡ None →
+    SaysLine a b status (line_of_ending ending) → LinesPrinted a b d [] ending status sure
 said_prints sure a b d ending status stable fed none says = all_prints sure a a a b d [] ending status stable fed (opening_none a d none) (Appends-nil a) says
 
 -- there was no memory to begin
-pub starved_prints : (sure : Type 0) (a b : Option (List ℕ)) (d : Device) (status : Status) → sure → b ≡ a → Prints a b d [] Starves status sure
+pub starved_prints : (sure : Type 0) (a b : Option (List ℕ)) (d : Device) (status : Status) → sure → b ≡ a → LinesPrinted a b d [] WantBefore status sure
 starved_prints sure a b d status stable same =
     let says = says_none a b status same in
     record {
-      told = [];
+      printed_records = [];
       rest = [];
       split = refl;
       few = omega arith;
       all = λ other. refl;
-      front = says.0;
+      prefix = says.0;
       whole = says.1;
       stable = λ none. stable;
     }
 
 -- the line of a deployment that is resumed was not written
 pub unopened_prints : (sure : Type 0) (a b : Option (List ℕ)) (d : Device) (status : Status) → sure → AppendsPrefix a b (opening_line d) →
-    status ≡ statuses.Edge → Prints a b d [] Breaks status sure
-unopened_prints sure a b d status stable front is = record {
-  told = [];
+    status ≡ statuses.Edge → LinesPrinted a b d [] BySinkFault status sure
+unopened_prints sure a b d status stable prefix is = record {
+  printed_records = [];
   rest = [];
   split = refl;
   few = omega arith;
   all = λ other. refl;
-  front = front_longer a b (opening_line d) ([] ++ []) front;
+  prefix = prefix_longer a b (opening_line d) ([] ++ []) prefix;
   whole = λ well. absurd (well is);
   stable = λ none. stable;
 }
 
--- a front of them, where the sink failed
+-- a prefix of them, where the sink failed
 edge_prints : (sure : Type 0) (a b c : Option (List ℕ)) (d : Device) (records : List Record) (status : Status) → sure → Appends a b (opening_line d) →
-    AppendsPrefix b c (lines_of d records) → status ≡ statuses.Edge → Prints a c d records Breaks status sure
+    AppendsPrefix b c (lines_of d records) → status ≡ statuses.Edge → LinesPrinted a c d records BySinkFault status sure
 edge_prints sure a b c d records status stable before lines is = record {
-  told = records;
+  printed_records = records;
   rest = [];
   split = sym (append-nil records);
   few = omega arith;
   all = λ other. refl;
-  front = front_joined a b c (opening_line d) (lines_of d records ++ []) before (front_longer b c (lines_of d records) [] lines);
+  prefix = prefix_joined a b c (opening_line d) (lines_of d records ++ []) before (prefix_longer b c (lines_of d records) [] lines);
   whole = λ well. absurd (well is);
   stable = λ none. stable;
 }
 
 -- how a call ends whose deployment was given up
 abbrev pub ending_over : SessionFault → Ending
-ending_over over.Disk = Fails
-ending_over over.Output = Breaks
+ending_over over.Disk = ByDiskFault
+ending_over over.Output = BySinkFault
 
 -- a deployment that was given up
 pub over_prints : (sure : Type 0) (e : SessionFault) (a b c f : Option (List ℕ)) (d : Device) (records : List Record) (status : Status) →
     (e ≡ over.Output → sure) → Appends a b (opening_line d) → LinesAt b c d records e
-    → SaysLine c f status (line_of_ending (ending_over e)) → (e ≡ over.Output → f ≡ c) → AnswersOver e status → Prints a f d records (ending_over e) status sure
+    → SaysLine c f status (line_of_ending (ending_over e)) → (e ≡ over.Output → f ≡ c) → GivenUpStatus e status →
+    LinesPrinted a f d records (ending_over e) status sure
 over_prints sure over.Disk a b c f d records status stable before lines says silent answers =
-    told_prints sure a b c f d records lines.0 (lines.1 ∷ []) Fails status (λ none. cc) (λ is. cc) before lines.3 lines.2 (omega arith)
+    told_prints sure a b c f d records lines.0 (lines.1 ∷ []) ByDiskFault status (λ none. cc) (λ is. cc) before lines.3 lines.2 (omega arith)
     (λ other. absurd (other refl)) says
 over_prints sure over.Output a b c f d records status stable before lines says silent answers =
-    subst (λ (x : Option (List ℕ)). Prints a x d records Breaks status sure) (sym (silent refl))
+    subst (λ (x : Option (List ℕ)). LinesPrinted a x d records BySinkFault status sure) (sym (silent refl))
     (edge_prints sure a b c d records status (stable refl) before lines answers)
 
 -- of the same records, and with the same status
 pub prints_as : {base : List Record} (a b : Option (List ℕ)) (d : Device) (records : List Record) (ending : Ending) (status given : Status)
-    (sure more : Type 0) → records ≡ base → status ≡ given → (sure → more) → Prints a b d base ending given sure → Prints a b d records ending status more
+    (sure more : Type 0) → records ≡ base → status ≡ given → (sure → more) → LinesPrinted a b d base ending given sure →
+    LinesPrinted a b d records ending status more
 prints_as {base} a b d records ending status given sure more none same on p =
-    subst (λ (l : List Record). Prints a b d l ending status more) (sym none) (subst (λ (s : Status). Prints a b d base ending s more) (sym same) (record {
-      told = p.told;
+    subst (λ (l : List Record). LinesPrinted a b d l ending status more) (sym none)
+    (subst (λ (s : Status). LinesPrinted a b d base ending s more) (sym same) (record {
+      printed_records = p.printed_records;
       rest = p.rest;
       split = p.split;
       few = p.few;
       all = p.all;
-      front = p.front;
+      prefix = p.prefix;
       whole = p.whole;
       stable = λ is. on (p.stable is);
     }))

@@ -7,8 +7,8 @@ use Rattle.session_boots.specs.declared.ends.SessionFault.{SessionFault}
 use Rattle.session_boots.specs.declared.ends.SessionFault.TheVariants as over
 use Rattle.session_rollout.specs.declared.driven.Driven.{Driven}
 use Rattle.session_rollout.specs.declared.driven.Driven.TheVariants as driven
-use Rattle.session.specs.Calls.{AnswersFor, EndsFor, SaysEnding}
-use Rattle.session.specs.Endings.{Ending, Fails}
+use Rattle.session.specs.Calls.{DrivenStatus, DrivenEnding, SaysEnding}
+use Rattle.session.specs.Endings.{Ending, ByDiskFault}
 use Rattle.session.proofs.Statuses.{no_outcome}
 
 module _ {A E : Type 0} where
@@ -31,18 +31,18 @@ module _ {A E : Type 0} where
   ok_on X r x is = subst (λ (z : Result A E). OnErr z X) (sym is) tt
 
 module _ {J : Type 0} (status : Status) where
-  pub answers_ok : (r : Result (Driven J) SessionFault) (x y : Driven J) → r ≡ Ok x → x ≡ y → AnswersFor (Ok y) status → AnswersFor r status
+  pub answers_ok : (r : Result (Driven J) SessionFault) (x y : Driven J) → r ≡ Ok x → x ≡ y → DrivenStatus (Ok y) status → DrivenStatus r status
   answers_ok r x y is same answers =
-      subst (λ (z : Result (Driven J) SessionFault). AnswersFor z status) (sym is) (subst (λ (z : Driven J). AnswersFor (Ok z) status) (sym same) answers)
+      subst (λ (z : Result (Driven J) SessionFault). DrivenStatus z status) (sym is) (subst (λ (z : Driven J). DrivenStatus (Ok z) status) (sym same) answers)
 
-  pub answers_err : (r : Result (Driven J) SessionFault) (e f : SessionFault) → r ≡ Err e → e ≡ f → AnswersFor {J = J} (Err f) status → AnswersFor r status
+  pub answers_err : (r : Result (Driven J) SessionFault) (e f : SessionFault) → r ≡ Err e → e ≡ f → DrivenStatus {J = J} (Err f) status → DrivenStatus r status
   answers_err r e f is same answers =
-      subst (λ (z : Result (Driven J) SessionFault). AnswersFor z status) (sym is)
-      (subst (λ (z : SessionFault). AnswersFor {J = J} (Err z) status) (sym same) answers)
+      subst (λ (z : Result (Driven J) SessionFault). DrivenStatus z status) (sym is)
+      (subst (λ (z : SessionFault). DrivenStatus {J = J} (Err z) status) (sym same) answers)
 
   -- with the cause of a disk that failed
   abbrev EndsCaused : Type 0 → Result (Driven J) SessionFault → Ending → Type 0
-  EndsCaused R r e = EndsFor r e × (e ≡ Fails → (IsErrOf r over.Disk) ⊎ R)
+  EndsCaused R r e = DrivenEnding r e × (e ≡ ByDiskFault → (IsErrOf r over.Disk) ⊎ R)
 
   module _ (old new : Option (List ℕ)) where
     pub ends_ok : {R : Type 0} (r : Result (Driven J) SessionFault) (x y : Driven J) → r ≡ Ok x → x ≡ y → SaysEnding old new status (EndsCaused R (Ok y)) →
@@ -68,7 +68,7 @@ not_edge {A} r e is disk edge = by e disk (subst (λ (z : Result A SessionFault)
 -- ---- which statuses it has not
 
 module _ {J : Type 0} (status : Status) where
-  pub answers_own : (r : Result (Driven J) SessionFault) → AnswersFor r status → status ≡ statuses.Library → ⊥
+  pub answers_own : (r : Result (Driven J) SessionFault) → DrivenStatus r status → status ≡ statuses.Library → ⊥
   answers_own (Ok (driven.Closed s o w)) (inl is) lib = no_outcome o statuses.Library refl (sym is ∙ lib)
   answers_own (Ok (driven.Closed s o w)) (inr (inl is)) lib = cc
   answers_own (Ok (driven.Closed s o w)) (inr (inr (inl is))) lib = cc
@@ -82,12 +82,12 @@ module _ {J : Type 0} (status : Status) where
   answers_own (Err over.Output) is lib = cc
 
   -- a failure of the disk is answered as one, unless the sink fails then
-  pub answers_disk : (r : Result (Driven J) SessionFault) → AnswersFor r status → status ≢ statuses.Disk → status ≢ statuses.Edge → IsErrOf r over.Disk → ⊥
-  answers_disk r answers disk edge is = by (subst (λ (z : Result (Driven J) SessionFault). AnswersFor z status) is answers)
+  pub answers_disk : (r : Result (Driven J) SessionFault) → DrivenStatus r status → status ≢ statuses.Disk → status ≢ statuses.Edge → IsErrOf r over.Disk → ⊥
+  answers_disk r answers disk edge is = by (subst (λ (z : Result (Driven J) SessionFault). DrivenStatus z status) is answers)
     where
       by : (status ≡ statuses.Disk) ⊎ (status ≡ statuses.Edge) → ⊥
       by (inl e) = disk e
       by (inr e) = edge e
 
-  pub answers_edge : (r : Result (Driven J) SessionFault) → AnswersFor r status → status ≢ statuses.Edge → IsErrOf r over.Output → ⊥
-  answers_edge r answers edge is = edge (subst (λ (z : Result (Driven J) SessionFault). AnswersFor z status) is answers)
+  pub answers_edge : (r : Result (Driven J) SessionFault) → DrivenStatus r status → status ≢ statuses.Edge → IsErrOf r over.Output → ⊥
+  answers_edge r answers edge is = edge (subst (λ (z : Result (Driven J) SessionFault). DrivenStatus z status) is answers)

@@ -13,7 +13,7 @@ use Rattle.deploy_state.specs.declared.state.Idle.{Idle as IdleState}
 use Rattle.deploy_state.specs.declared.state.Loaded.{Loaded}
 use Rattle.deploy_state.specs.declared.state.Loaded.TheVariants as loaded
 use Rattle.deploy_state.proofs.Steps.{in_hand_stands}
-use Rattle.session.specs.Endings.{Ending, Idle, Starves, IsBegun, Resumes, ResumesBy}
+use Rattle.session.specs.Endings.{Ending, Idle, WantBefore, IsBegun, ResumeEnding, PendingEnding}
 
 some_of : {A : Type 0} (P : A → Type 0) (o : Option A) → IsSomeAnd o P → IsSome o
 some_of P None h = absurd h
@@ -63,12 +63,12 @@ module _ {J D : Type 0} {is_modelled : Bool} {seen : D → Image} {may_leave : D
 
 -- ---- how it ends
 
-resumes_by : (ending : Ending) (o : Option Pending) → IsSome o → IsBegun ending ⊎ (ending ≡ Starves) → ResumesBy o ending
+resumes_by : (ending : Ending) (o : Option Pending) → IsSome o → IsBegun ending ⊎ (ending ≡ WantBefore) → PendingEnding o ending
 resumes_by ending None some so = absurd cc
 resumes_by ending (Some q) some so = so
 
-pub resumes_some : (d : Device) (ending : Ending) → IsSome d.pending → IsBegun ending ⊎ (ending ≡ Starves) → Resumes d ending
+pub resumes_some : (d : Device) (ending : Ending) → IsSome d.pending → IsBegun ending ⊎ (ending ≡ WantBefore) → ResumeEnding d ending
 resumes_some d ending some so = resumes_by ending d.pending some so
 
-pub resumes_none : (d : Device) (ending : Ending) → d.pending ≡ None → ending ≡ Idle → Resumes d ending
-resumes_none d ending none is = subst (λ (o : Option Pending). ResumesBy o ending) (sym none) is
+pub resumes_none : (d : Device) (ending : Ending) → d.pending ≡ None → ending ≡ Idle → ResumeEnding d ending
+resumes_none d ending none is = subst (λ (o : Option Pending). PendingEnding o ending) (sym none) is

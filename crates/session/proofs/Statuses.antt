@@ -252,28 +252,28 @@ library_declined (Unasked u) failed = absurd failed
 
 -- ---- of the line that says so, or want of memory, or a fault of the sink
 
-abbrev Told : Status → Status → Type 0
-Told status given = (status ≡ given) ⊎ (status ≡ statuses.Memory) ⊎ (status ≡ statuses.Edge)
+abbrev IsOrFault : Status → Status → Type 0
+IsOrFault status given = (status ≡ given) ⊎ (status ≡ statuses.Memory) ⊎ (status ≡ statuses.Edge)
 
-pub refusal_never : (r : Refusal) (status s : Status) → Told status (status_of_refusal r) → may_refuse s ≡ false → s ≢ statuses.Edge → status ≡ s → ⊥
+pub refusal_never : (r : Refusal) (status s : Status) → IsOrFault status (status_of_refusal r) → may_refuse s ≡ false → s ≢ statuses.Edge → status ≡ s → ⊥
 refusal_never r status s (inl given) never edge is = no_refusal r s never (sym given ∙ is)
 refusal_never r status s (inr (inl given)) never edge is = true≢false (ap may_refuse (sym given ∙ is) ∙ never)
 refusal_never r status s (inr (inr given)) never edge is = edge (sym is ∙ given)
 
 -- a document that cannot be read
-pub unread_never : (f : DocFault) (status : Status) → Told status (status_of_refusal (document_refusal f)) → status ≡ statuses.Library → ⊥
+pub unread_never : (f : DocFault) (status : Status) → IsOrFault status (status_of_refusal (document_refusal f)) → status ≡ statuses.Library → ⊥
 unread_never f status (inl given) is = unread_library f (sym given ∙ is)
 unread_never f status (inr (inl given)) is = absurd cc
 unread_never f status (inr (inr given)) is = absurd cc
 
 -- it is the document's status
-pub told_is : (status given s : Status) → Told status given → s ≢ statuses.Memory → s ≢ statuses.Edge → status ≡ s → given ≡ s
+pub told_is : (status given s : Status) → IsOrFault status given → s ≢ statuses.Memory → s ≢ statuses.Edge → status ≡ s → given ≡ s
 told_is status given s (inl same) memory edge is = sym same ∙ is
 told_is status given s (inr (inl same)) memory edge is = absurd (memory (sym is ∙ same))
 told_is status given s (inr (inr same)) memory edge is = absurd (edge (sym is ∙ same))
 
 -- and it is said, unless the sink fails
-pub told_said : (status given s : Status) → Told status given → given ≡ s → status ≢ statuses.Memory → status ≢ s → status ≢ statuses.Edge → ⊥
+pub told_said : (status given s : Status) → IsOrFault status given → given ≡ s → status ≢ statuses.Memory → status ≢ s → status ≢ statuses.Edge → ⊥
 told_said status given s (inl same) is memory other edge = other (same ∙ is)
 told_said status given s (inr (inl same)) is memory other edge = memory same
 told_said status given s (inr (inr same)) is memory other edge = edge same
@@ -287,7 +287,7 @@ closed_no_restart o status (inr (inr (inl is))) = ap is_restart is
 closed_no_restart o status (inr (inr (inr is))) = ap is_restart is
 
 -- with the status of a refusal, or for want of memory or of the sink, neither
-pub told_no_restart : (status given : Status) → Told status given → is_restart given ≡ false → is_restart status ≡ false
+pub told_no_restart : (status given : Status) → IsOrFault status given → is_restart given ≡ false → is_restart status ≡ false
 told_no_restart status given (inl is) other = ap is_restart is ∙ other
 told_no_restart status given (inr (inl is)) other = ap is_restart is
 told_no_restart status given (inr (inr is)) other = ap is_restart is

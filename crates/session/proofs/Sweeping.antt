@@ -24,7 +24,7 @@ use Rattle.admission.proofs.Staying.{hand_stays}
 use Rattle.session_rollout.specs.Driven.{OwnsDriven, driven_device}
 use Rattle.session_rollout.specs.declared.driven.Driven.{Driven}
 use Rattle.session_rollout.specs.declared.driven.Driven.TheVariants as driven
-use Rattle.session.specs.Calls.{AnswersFor, IsOrEdge, ChangesArtifactsAlone}
+use Rattle.session.specs.Calls.{DrivenStatus, IsOrEdge, ChangesArtifactsAlone}
 use Rattle.session.specs.Declines.{status_of_declined}
 use Rattle.session.specs.Sweeping.{LeavesNoStray}
 use Rattle.session.proofs.Resuming.{loaded_hand}
@@ -98,7 +98,7 @@ module _ {D J : Type 0} {is_modelled : Bool} {seen : D → Image} {may_leave : D
   -- a deployment was driven, and files are swept behind it
   pub driven_sweeps : LieElsewhere files → (r : Result (Driven J) SessionFault) (to new : D) (status : Status) →
       IfOk r (λ x. OwnsDriven is_modelled may_leave stands end x to)
-      → ChangesArtifactsAlone may_leave moment left_since to new → AnswersFor r status →
+      → ChangesArtifactsAlone may_leave moment left_since to new → DrivenStatus r status →
       (IsTrue is_modelled → IfOk r (λ x. (o : Outcome) → status ≡ status_of_outcome o → IsSwept (items_of (driven_device x)) (seen new)))
       → LeavesNoStray is_modelled entries status (seen new)
   driven_sweeps apart (Ok x) to new status held spared answers swept told o is e there =

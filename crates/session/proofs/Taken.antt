@@ -21,7 +21,7 @@ use Rattle.components.specs.Fitted.{Fitted}
 use Rattle.components.specs.declared.kinds.Prepared.{Prepared}
 use Rattle.histories.specs.States.{SessionState}
 use Rattle.session_boots.specs.Stands.{IsOpened}
-use Rattle.session_admission.specs.Accepts.{HasTaken, OwnsTaken, IsFullAt, IsFullOrShort, IsTakenOf, Opened}
+use Rattle.session_admission.specs.Accepts.{HasTaken, OwnsTaken, IsFullAt, IsFullOrShort, IsTakenOf, TakenLeft}
 use Rattle.session_admission.specs.declared.accepting.Taken.{Taken}
 use Rattle.session_admission.specs.declared.accepting.Taken.TheVariants as taken
 use Rattle.session_admission.specs.Readied.{AreReadiedFor}
@@ -39,9 +39,9 @@ module _ {J : Type 0} (x : Taken J) where
     pub fits_taken : (at : ℕ) → IsFullOrShort {J = J} (Ok x) at → ⊥
     fits_taken at short = subst (λ (y : Taken J). IsFullOrShort {J = J} (Ok y) at) is short
 
-    pub opened_at : (q : SessionState) (world : Components) (told : Told) (living : List ℕ) → Opened x q world told living →
+    pub opened_at : (q : SessionState) (world : Components) (told : Told) (living : List ℕ) → TakenLeft x q world told living →
         IsOpened q (booting_device s) world told living
-    opened_at q world told living opened = subst (λ (y : Taken J). Opened y q world told living) is opened
+    opened_at q world told living opened = subst (λ (y : Taken J). TakenLeft y q world told living) is opened
 
     pub booting_of : (d : Device) (plan : Plan) → IsTakenOf d plan x → booting_device s ≡ applied d (Accepted plan)
     booting_of d plan of = subst (λ (y : Taken J). IsTakenOf d plan y) is of

@@ -18,13 +18,14 @@ use Rattle.histories.specs.States.{SessionState, state_after}
 use Rattle.histories.proofs.Joined.{left-append}
 use Rattle.session_boots.specs.Booted.{AsksFor}
 use Rattle.session_boots.specs.Ends.{StopsAt}
-use Rattle.session_boots.specs.Traces.{Acts, StandsForMost}
+use Rattle.session_boots.specs.Traces.{ActTrace, StandsForMost}
 use Rattle.session_boots.specs.declared.ends.Booted.TheVariants as booted
 use Rattle.session_boots.proofs.Joins.{records_opened}
 use Rattle.session_startup.specs.Ended.{ClosesAs}
 use Rattle.session_rollout.proofs.Joining.{went_acting}
-use Rattle.session.specs.Calls.{Call, Ends, IsOrEdge, IsPendingAs, QuitsAt, StandsBehind}
-use Rattle.session.specs.Endings.{Ending, Closes, Restarts, Reboots, Fails, Breaks, Forgets, Starves, Declines, Full, Idle, is_failing, status_of_ending}
+use Rattle.session.specs.Calls.{Call, IsEndingOf, IsOrEdge, IsPendingAs, QuitsAt, StandsBehind}
+use Rattle.session.specs.Endings.{Ending, ByClose, ByRestart, ByReboot, ByDiskFault, BySinkFault, WantAfter, WantBefore, ByDecline, Full, Idle}
+use Rattle.session.specs.Endings.{is_failing, status_of_ending}
 use Rattle.session.specs.Parts.{EndsPart, IsOver, IsUnbegun, QuitsPart, RanLeft, RunsPart, status_of_ran}
 use Rattle.session.specs.declared.ran.Ran.{Ran}
 use Rattle.session.specs.declared.ran.Ran.TheVariants as ran
@@ -48,23 +49,23 @@ module _ (p : SessionState) (h k : List TraceEvent) (stopped : is_stopped p.worl
     pending_on : (state_after p h).device.pending ≡ None → (state_after p (k ++ h)).device.pending ≡ None
     pending_on is = ap (λ (d : Device). d.pending) device ∙ is
 
-    ends_whole : (ending : Ending) → EndsPart p ending h → Ends ending (k ++ h) (state_after p (k ++ h))
-    ends_whole (Closes o) e = (subst (λ (l : List Record). ClosesAs o l) (sym same) e.0, pending_on e.1)
-    ends_whole (Restarts id) e = (
+    ends_whole : (ending : Ending) → EndsPart p ending h → IsEndingOf ending (k ++ h) (state_after p (k ++ h))
+    ends_whole (ByClose o) e = (subst (λ (l : List Record). ClosesAs o l) (sym same) e.0, pending_on e.1)
+    ends_whole (ByRestart id) e = (
       subst (λ (l : List Record). AsksFor booted.Restart l (state_after p (k ++ h)).device) (sym same)
           (subst (λ (d : Device). AsksFor booted.Restart (records_of h) d) (sym device) e.0),
       subst (λ (d : Device). IsPendingAs id d) (sym device) e.1,
     )
-    ends_whole (Reboots id) e = (
+    ends_whole (ByReboot id) e = (
       subst (λ (l : List Record). AsksFor booted.Reboot l (state_after p (k ++ h)).device) (sym same)
           (subst (λ (d : Device). AsksFor booted.Reboot (records_of h) d) (sym device) e.0),
       subst (λ (d : Device). IsPendingAs id d) (sym device) e.1,
     )
-    ends_whole Fails e = tt
-    ends_whole Breaks e = tt
-    ends_whole Forgets e = (e.0, subst (λ (l : List Record). ClosesAs e.0 l) (sym same) e.1)
-    ends_whole Starves e = none_both e
-    ends_whole (Declines d) e = none_both e
+    ends_whole ByDiskFault e = tt
+    ends_whole BySinkFault e = tt
+    ends_whole WantAfter e = (e.0, subst (λ (l : List Record). ClosesAs e.0 l) (sym same) e.1)
+    ends_whole WantBefore e = none_both e
+    ends_whole (ByDecline d) e = none_both e
     ends_whole (Full at) e = none_both e
     ends_whole Idle e = (none_both e.0, pending_on e.1)
 
@@ -101,7 +102,7 @@ module _ (entries : Image → List (List ℕ) → Type 0) (files : List ℕ → 
   pub whole : {J : Type 0} (old new : D) (a b c : Option (List RunnerEntry)) (u v : Option (List ℕ)) (p : SessionState) (r : Ran J) (world : Components)
       (told : Told) (living : List ℕ) (status : Status) → p.serves ≡ false → is_stopped p.world ≡ true → status ≡ status_of_ran r
       → (part : RunsPart entries files may_leave moment left_since old new a b u v p r world told living) → (k : List TraceEvent) ×
-      Acts (state_after p part.history) k b c × IsEnd (state_after (state_after p part.history) k) status (is_failing part.ending)
+      ActTrace (state_after p part.history) k b c × IsEnd (state_after (state_after p part.history) k) status (is_failing part.ending)
       × (is_stopped (state_after p part.history).world ≡ true → k ≡ []) × (IsOver r → k ≡ [])
       → (call : Call entries files may_leave moment left_since old new a c u v p status) × (call.ending ≡ part.ending)
       × (records_of call.history ≡ records_of part.history)

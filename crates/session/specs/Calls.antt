@@ -3,9 +3,9 @@ use Rattle.std.specs.Prelude.{◌≡◌, ◌≢◌, ◌⊎◌, ◌≤◌, ◌-�
 use Rattle.std.specs.Option.{IsSomeAnd}
 use Rattle.std.specs.Io.KnownBytes.{Appends}
 use Rattle.artifact_store.specs.Holding.{HoldsDevice, HoldsItems}
-use Rattle.disk_model.specs.Disk.{Image, After, Leaves}
+use Rattle.disk_model.specs.Disk.{Image, IsAfter, HasLeft}
 use Rattle.disk_model.specs.Listing.{artifacts, IsBelow}
-use Rattle.disk_model.specs.Spares.{Spares}
+use Rattle.disk_model.specs.Spares.{IsSameBut}
 use Rattle.edges.specs.Pieces.{AppendsPrefix}
 use Rattle.nuc_base.specs.declared.kinds.Outcome.{Outcome}
 use Rattle.nuc_base.specs.declared.status.Status.{Status}
@@ -34,16 +34,17 @@ use Rattle.session_admission.specs.Readied.{IsReadied}
 use Rattle.session_rollout.specs.declared.driven.Driven.{Driven}
 use Rattle.session_rollout.specs.declared.driven.Driven.TheVariants as driven
 use Rattle.refusal_lines.specs.Statuses.{status_of_outcome}
-use Rattle.session.specs.Endings.{Ending, Closes, Restarts, Reboots, Fails, Breaks, Forgets, Starves, Declines, Full, Idle, is_failing, line_of_ending}
+use Rattle.session.specs.Endings.{Ending, ByClose, ByRestart, ByReboot, ByDiskFault, BySinkFault, WantAfter, WantBefore, ByDecline, Full, Idle}
+use Rattle.session.specs.Endings.{is_failing, line_of_ending}
 use Rattle.session.specs.Endings.{status_of_ending}
 
 -- ---- lines
 
--- One more line at most; where the sink failed a front of it.
-abbrev pub Says : Option (List ℕ) → Option (List ℕ) → Status → Type 0
-Says old new status = (last : List ℕ) × AppendsPrefix old new last × (status ≢ statuses.Edge → Appends old new last)
+-- One more line at most; where the sink failed a prefix of it.
+abbrev pub AtMostOneLine : Option (List ℕ) → Option (List ℕ) → Status → Type 0
+AtMostOneLine old new status = (last : List ℕ) × AppendsPrefix old new last × (status ≢ statuses.Edge → Appends old new last)
 
--- This line; where the sink failed a front of it.
+-- This line; where the sink failed a prefix of it.
 abbrev pub SaysLine : Option (List ℕ) → Option (List ℕ) → Status → List ℕ → Type 0
 SaysLine old new status line = AppendsPrefix old new line × (status ≢ statuses.Edge → Appends old new line)
 
@@ -66,19 +67,19 @@ opening_line d = elim d.pending [ None ↦ [] | Some q ↦ resumed_line q.plan.i
 -- The lines of a call: that of a deployment that is resumed, those of the records, and that of the ending. Where there was no
 -- memory to begin there is none.
 abbrev pub call_lines : Device → List Record → Ending → List ℕ
-call_lines d records Starves = []
+call_lines d records WantBefore = []
 call_lines d records ending = opening_line d ++ (lines_of d records ++ line_of_ending ending)
 
 -- The lines of the call. Where the disk failed that of the last record may be missing, also where the line that says so was not
--- written. Where the sink failed there is a front of them. What is sure of all records holds where the line of none is missing.
-pub record Prints (old new : Option (List ℕ)) (d : Device) (records : List Record) (ending : Ending) (status : Status) (sure : Type 0) : Type 0 where
-  pub told : List Record
+-- written. Where the sink failed there is a prefix of them. What is sure of all records holds where the line of none is missing.
+pub record LinesPrinted (old new : Option (List ℕ)) (d : Device) (records : List Record) (ending : Ending) (status : Status) (sure : Type 0) : Type 0 where
+  pub printed_records : List Record
   pub rest : List Record
-  pub split : records ≡ told ++ rest
+  pub split : records ≡ printed_records ++ rest
   pub few : length rest ≤ 1
-  pub all : ending ≢ Fails → rest ≡ []
-  pub front : AppendsPrefix old new (call_lines d told ending)
-  pub whole : status ≢ statuses.Edge → Appends old new (call_lines d told ending)
+  pub all : ending ≢ ByDiskFault → rest ≡ []
+  pub prefix : AppendsPrefix old new (call_lines d printed_records ending)
+  pub whole : status ≢ statuses.Edge → Appends old new (call_lines d printed_records ending)
   pub stable : rest ≡ [] → sure
 
 -- ---- the end
@@ -90,17 +91,17 @@ IsPendingAs id d = IsSomeAnd d.pending (λ q. q.plan.id ≡ id)
 -- The last record is that the deployment closed so, and nothing is pending; or it asks for the restart or the reboot of the
 -- pending deployment. Want of memory leaves no deployment unfinished that this call began or drove on. Where none is begun or
 -- driven on nothing happens.
-abbrev pub Ends : Ending → List TraceEvent → SessionState → Type 0
-Ends (Closes o) h q = ClosesAs o (records_of h) × (q.device.pending ≡ None)
-Ends (Restarts id) h q = AsksFor booted.Restart (records_of h) q.device × IsPendingAs id q.device
-Ends (Reboots id) h q = AsksFor booted.Reboot (records_of h) q.device × IsPendingAs id q.device
-Ends Fails h q = ⊤
-Ends Breaks h q = ⊤
-Ends Forgets h q = (o : Outcome) × ClosesAs o (records_of h)
-Ends Starves h q = h ≡ []
-Ends (Declines d) h q = h ≡ []
-Ends (Full at) h q = h ≡ []
-Ends Idle h q = (h ≡ []) × (q.device.pending ≡ None)
+abbrev pub IsEndingOf : Ending → List TraceEvent → SessionState → Type 0
+IsEndingOf (ByClose o) h q = ClosesAs o (records_of h) × (q.device.pending ≡ None)
+IsEndingOf (ByRestart id) h q = AsksFor booted.Restart (records_of h) q.device × IsPendingAs id q.device
+IsEndingOf (ByReboot id) h q = AsksFor booted.Reboot (records_of h) q.device × IsPendingAs id q.device
+IsEndingOf ByDiskFault h q = ⊤
+IsEndingOf BySinkFault h q = ⊤
+IsEndingOf WantAfter h q = (o : Outcome) × ClosesAs o (records_of h)
+IsEndingOf WantBefore h q = h ≡ []
+IsEndingOf (ByDecline d) h q = h ≡ []
+IsEndingOf (Full at) h q = h ≡ []
+IsEndingOf Idle h q = (h ≡ []) × (q.device.pending ≡ None)
 
 module _ (entries : Image → List (List ℕ) → Type 0) {D : Type 0} (may_leave : D → Image → Type 0) where
   -- each image that a crash may leave now stands for the device that the history leaves
@@ -113,7 +114,7 @@ QuitsAt h = (h ≡ []) ⊎ StopsAt h
 
 -- ---- files of artifacts
 
--- the image stands for the device that a front of the records leaves, and has each artifact of that device
+-- the image stands for the device that a prefix of the records leaves, and has each artifact of that device
 abbrev pub StandsWhole : (Image → List (List ℕ) → Type 0) → Device → List Record → Image → Type 0
 StandsWhole entries d records image = (f : StandsForPrefix entries d records image) × HoldsDevice image f.device
 
@@ -125,7 +126,7 @@ AllHoldBoth images d items = (c : Image) → images c → HoldsDevice c d × Hol
 
 -- a crash at any moment changes files of artifacts alone
 abbrev pub ChangesArtifactsAlone : {D : Type 0} → (D → Image → Type 0) → (D → ℕ) → (D → ℕ → Image → Type 0) → D → D → Type 0
-ChangesArtifactsAlone may_leave moment left_since old new = Leaves moment left_since old new (After (may_leave old) (Spares (IsBelow artifacts)))
+ChangesArtifactsAlone may_leave moment left_since old new = HasLeft moment left_since old new (IsAfter (may_leave old) (IsSameBut (IsBelow artifacts)))
 
 module _ (entries : Image → List (List ℕ) → Type 0) (files : List ℕ → Type 0) {D : Type 0} (may_leave : D → Image → Type 0) (moment : D → ℕ)
     (left_since : D → ℕ → Image → Type 0) where
@@ -145,8 +146,8 @@ module _ (entries : Image → List (List ℕ) → Type 0) (files : List ℕ → 
     pub after : ChangesArtifactsAlone may_leave moment left_since to new
     pub ending : Ending
     pub answers : IsOrEdge status (status_of_ending ending)
-    pub prints : Prints old_held new_held p.device (records_of history) ending status (StandsBehind entries may_leave new p history)
-    pub ends : Ends ending history (state_after p history)
+    pub prints : LinesPrinted old_held new_held p.device (records_of history) ending status (StandsBehind entries may_leave new p history)
+    pub ends : IsEndingOf ending history (state_after p history)
     pub end : IsEnd (state_after p history) status (is_failing ending)
     pub stands : (c : Image) → may_leave new c → StandsForMost entries p.device (records_of history) c
     pub doubt : StandsBehind entries may_leave new p history ⊎ StopsAt history
@@ -156,42 +157,43 @@ module _ (entries : Image → List (List ℕ) → Type 0) (files : List ℕ → 
 -- ---- counts of faults
 
 -- it does not fall below what it was, up to its type's end
-abbrev pub Stays : ℕ → ℕ → Type 0
-Stays before now = min before (2 ^ 64 - 1) ≤ now
+abbrev pub HasNotFallen : ℕ → ℕ → Type 0
+HasNotFallen before now = min before (2 ^ 64 - 1) ≤ now
 
 -- ---- by name
 
 -- every file but the journal's and those of artifacts is as before
-abbrev pub Elsewhere : (List ℕ → Type 0) → Image → Image → Type 0
-Elsewhere files old new = (name : List ℕ) → ¬ (files name) → ¬ (IsBelow artifacts name) → new name ≡ old name
+abbrev pub AreOthersSame : (List ℕ → Type 0) → Image → Image → Type 0
+AreOthersSame files old new = (name : List ℕ) → ¬ (files name) → ¬ (IsBelow artifacts name) → new name ≡ old name
 
 -- how a call ends behind the close of its deployment
-abbrev pub EndsClosed : Outcome → Ending → Type 0
-EndsClosed o ending = (ending ≡ Closes o) ⊎ (ending ≡ Forgets) ⊎ (ending ≡ Fails)
+abbrev pub CloseEnding : Outcome → Ending → Type 0
+CloseEnding o ending = (ending ≡ ByClose o) ⊎ (ending ≡ WantAfter) ⊎ (ending ≡ ByDiskFault)
 
 -- how a call ends whose deployment was driven so
-abbrev pub EndsFor : {J : Type 0} → Result (Driven J) SessionFault → Ending → Type 0
-EndsFor (Ok (driven.Closed s o c)) ending = EndsClosed o ending
-EndsFor (Ok (driven.Restart s)) ending = ending ≡ Restarts (id_of (loaded_device s))
-EndsFor (Ok (driven.Reboot s)) ending = ending ≡ Reboots (id_of (loaded_device s))
-EndsFor (Err over.Disk) ending = ending ≡ Fails
-EndsFor (Err over.Output) ending = ending ≡ Breaks
+abbrev pub DrivenEnding : {J : Type 0} → Result (Driven J) SessionFault → Ending → Type 0
+DrivenEnding (Ok (driven.Closed s o c)) ending = CloseEnding o ending
+DrivenEnding (Ok (driven.Restart s)) ending = ending ≡ ByRestart (id_of (loaded_device s))
+DrivenEnding (Ok (driven.Reboot s)) ending = ending ≡ ByReboot (id_of (loaded_device s))
+DrivenEnding (Err over.Disk) ending = ending ≡ ByDiskFault
+DrivenEnding (Err over.Output) ending = ending ≡ BySinkFault
 
 -- by some ending its line is said with its status
 abbrev pub SaysEnding : Option (List ℕ) → Option (List ℕ) → Status → (Ending → Type 0) → Type 0
 SaysEnding old new status is = (ending : Ending) × is ending × SaysLine old new status (line_of_ending ending) × IsOrEdge status (status_of_ending ending)
 
 -- with which status a call ends whose deployment was given up
-abbrev pub AnswersOver : SessionFault → Status → Type 0
-AnswersOver over.Disk status = (status ≡ statuses.Disk) ⊎ (status ≡ statuses.Edge)
-AnswersOver over.Output status = status ≡ statuses.Edge
+abbrev pub GivenUpStatus : SessionFault → Status → Type 0
+GivenUpStatus over.Disk status = (status ≡ statuses.Disk) ⊎ (status ≡ statuses.Edge)
+GivenUpStatus over.Output status = status ≡ statuses.Edge
 
 -- with which status a call ends whose deployment was driven so
-abbrev pub AnswersFor : {J : Type 0} → Result (Driven J) SessionFault → Status → Type 0
-AnswersFor (Ok (driven.Closed s o c)) status = (status ≡ status_of_outcome o) ⊎ (status ≡ statuses.Memory) ⊎ (status ≡ statuses.Disk) ⊎ (status ≡ statuses.Edge)
-AnswersFor (Ok (driven.Restart s)) status = (status ≡ statuses.Restart) ⊎ (status ≡ statuses.Edge)
-AnswersFor (Ok (driven.Reboot s)) status = (status ≡ statuses.Reboot) ⊎ (status ≡ statuses.Edge)
-AnswersFor (Err e) status = AnswersOver e status
+abbrev pub DrivenStatus : {J : Type 0} → Result (Driven J) SessionFault → Status → Type 0
+DrivenStatus (Ok (driven.Closed s o c)) status = (status ≡ status_of_outcome o) ⊎ (status ≡ statuses.Memory) ⊎ (status ≡ statuses.Disk) ⊎
+    (status ≡ statuses.Edge)
+DrivenStatus (Ok (driven.Restart s)) status = (status ≡ statuses.Restart) ⊎ (status ≡ statuses.Edge)
+DrivenStatus (Ok (driven.Reboot s)) status = (status ≡ statuses.Reboot) ⊎ (status ≡ statuses.Edge)
+DrivenStatus (Err e) status = GivenUpStatus e status
 
 -- what a plan and its way back need is made ready for a device of some origin
 abbrev pub IsReadiedOn : Device → Plan → List Prepared → List Prepared → List Fitted → List Fitted → Type 0

@@ -1,6 +1,6 @@
 -- What becomes of a document in a call: whether it is taken, and what then follows.
 use Rattle.std.specs.Prelude.{◌≡◌, ◌⊎◌, ℕ, ◌+◌, true, List, [], ◌∷◌, Option, Result, Ok, Err, ⊤}
-use Rattle.disk_model.specs.Disk.{Image, Leaves}
+use Rattle.disk_model.specs.Disk.{Image, HasLeft}
 use Rattle.nuc_base.specs.declared.status.Status.{Status}
 use Rattle.library_core.specs.Library.{Content}
 use Rattle.records.specs.Stored.{Plan, Record, Accepted, plan_view}
@@ -22,7 +22,7 @@ use Rattle.admission.specs.declared.fault.Declined.{Declined}
 use Rattle.admission.specs.declared.fault.Declined.TheVariants.{Refused}
 use Rattle.session.specs.Calls.{Call, StandsWhole}
 use Rattle.session_admission.specs.Accepts.{IsAcceptedAt}
-use Rattle.session.specs.Endings.{Ending, Declines, Fails, Full, Starves, IsBegun}
+use Rattle.session.specs.Endings.{Ending, ByDecline, ByDiskFault, Full, WantBefore, IsBegun}
 
 -- ---- what taking it in answers
 
@@ -42,20 +42,20 @@ FitsFrom start plan = ¬ (IsTooFar (start (plan_bytes plan)) (plan_bytes plan))
 
 -- it is not begun, for want of memory or of room
 abbrev pub IsPutOff : (ℕ → ℕ) → Plan → Ending → Type 0
-IsPutOff start plan Starves = ⊤
+IsPutOff start plan WantBefore = ⊤
 IsPutOff start plan (Full at) = (at ≡ start (plan_bytes plan)) × IsTooFar at (plan_bytes plan)
 IsPutOff start plan _ = ⊥
 
 -- A plan that is taken in is the first record, and no other is accepted; or it is put off, and there is none.
-abbrev pub Begins : (ℕ → ℕ) → Plan → Ending → List Record → Type 0
-Begins start plan ending records =
+abbrev pub PlanEnding : (ℕ → ℕ) → Plan → Ending → List Record → Type 0
+PlanEnding start plan ending records =
     (IsPutOff start plan ending × (records ≡ []))
     ⊎ (IsBegun ending × FitsFrom start plan × ((rest : List Record) × (records ≡ Accepted plan ∷ rest) × TakesOnce true rest))
 
 -- A document that is not taken ends the call so, or for want of memory, with no record.
-abbrev pub Follows : (ℕ → ℕ) → Result code.Plan Declined → Ending → List Record → Type 0
-Follows start (Err d) ending records = ((ending ≡ Declines d) ⊎ (ending ≡ Starves)) × (records ≡ [])
-Follows start (Ok plan) ending records = Begins start (plan_view plan) ending records
+abbrev pub TakenEnding : (ℕ → ℕ) → Result code.Plan Declined → Ending → List Record → Type 0
+TakenEnding start (Err d) ending records = ((ending ≡ ByDecline d) ⊎ (ending ≡ WantBefore)) × (records ≡ [])
+TakenEnding start (Ok plan) ending records = PlanEnding start (plan_view plan) ending records
 
 -- ---- where its entry stands
 
@@ -64,15 +64,15 @@ module _ (entries : Image → List (List ℕ) → Type 0) {D : Type 0} (may_leav
   -- At a moment of the call each image that a crash may leave stands for the device with the plan accepted, and its live entries end here.
   pub record HasAcceptedTo (plan : Plan) (end : ℕ) : Type 0 where
     pub at : D
-    pub from : Leaves moment left_since old at (λ c. ⊤)
-    pub on : Leaves moment left_since at new (λ c. ⊤)
+    pub from : HasLeft moment left_since old at (λ c. ⊤)
+    pub on : HasLeft moment left_since at new (λ c. ⊤)
     pub each : (c : Image) → may_leave at c → IsAcceptedAt entries d plan end c
 
   -- so it is with a plan that is accepted, behind its entry, unless the disk failed as that was added
   abbrev pub AcceptsFrom : (ℕ → ℕ) → Plan → Ending → List Record → Type 0
   AcceptsFrom start plan ending records =
       (records ≡ [])
-      ⊎ ((ending ≡ Fails) × (records ≡ Accepted plan ∷ []))
+      ⊎ ((ending ≡ ByDiskFault) × (records ≡ Accepted plan ∷ []))
       ⊎ HasAcceptedTo plan (start (plan_bytes plan) + 5 + plan_bytes plan)
 
   -- and with one that was taken in
@@ -89,14 +89,14 @@ module _ (entries : Image → List (List ℕ) → Type 0) (files : List ℕ → 
   abbrev pub DrivesPlan : (ℕ → ℕ) → Plan → Type 0
   DrivesPlan start plan =
       (c : Call entries files may_leave moment left_since old new old_list new_list old_held new_held p status) ×
-      Begins start plan c.ending (records_of c.history)
+      PlanEnding start plan c.ending (records_of c.history)
 
   -- so is a plan that was taken in, and a document that was not taken is declined
   abbrev pub DrivesTaken : (ℕ → ℕ) → Result code.Plan Declined → Type 0
   DrivesTaken start taken =
       (c : Call entries files may_leave moment left_since old new old_list new_list old_held new_held p status) ×
-      Follows start taken c.ending (records_of c.history)
+      TakenEnding start taken c.ending (records_of c.history)
 
-  -- At each moment each image stands for what a front of the call's records makes of the device, with all of its artifacts.
+  -- At each moment each image stands for what a prefix of the call's records makes of the device, with all of its artifacts.
   abbrev pub KeepsArtifacts : Call entries files may_leave moment left_since old new old_list new_list old_held new_held p status → Type 0
-  KeepsArtifacts c = Leaves moment left_since old new (StandsWhole entries p.device (records_of c.history))
+  KeepsArtifacts c = HasLeft moment left_since old new (StandsWhole entries p.device (records_of c.history))

@@ -1,7 +1,7 @@
 -- One deployment in a call that goes on behind it or ends: what happens, what is printed, and what is left.
 use Rattle.std.specs.Prelude.{◌≡◌, ◌⊎◌, ℕ, Bool, true, false, List, [], Option, None, Result, is_some, if◌then◌else◌, ⊤}
 use Rattle.std.specs.List.{AllByRecursion, list_any}
-use Rattle.disk_model.specs.Disk.{Image, Leaves}
+use Rattle.disk_model.specs.Disk.{Image, HasLeft}
 use Rattle.nuc_base.specs.declared.kinds.Outcome.{Outcome}
 use Rattle.nuc_base.specs.declared.status.Status.{Status}
 use Rattle.records.specs.Stored.{Plan}
@@ -14,7 +14,7 @@ use Rattle.step_runner.specs.declared.entries.RunnerEntry.{RunnerEntry}
 use Rattle.components.specs.Components.{Components, is_stopped}
 use Rattle.components.specs.Turns.{IsQuiet, owes}
 use Rattle.histories.specs.Phases.{Generation, current, draining, is_shutting_down}
-use Rattle.histories.specs.Courses.{IsEnd, Stands, gives_up, is_restart}
+use Rattle.histories.specs.Courses.{IsEnd, IsStateOf, gives_up, is_restart}
 use Rattle.histories.specs.Follows.{IsLast}
 use Rattle.histories.specs.TraceEvents.{TraceEvent, records_of}
 use Rattle.histories.specs.Once.{TakesOnce}
@@ -29,9 +29,10 @@ use Rattle.session_transitions.specs.Fails.{IsGivenUp}
 use Rattle.session_rollout.specs.declared.driven.Presence.{Presence}
 use Rattle.session_rollout.specs.declared.driven.Presence.TheVariants as presences
 use Rattle.admission.specs.declared.fault.Declined.{Declined}
-use Rattle.session.specs.Calls.{IsOrEdge, IsPendingAs, Prints, ChangesArtifactsAlone, StandsBehind, StandsWhole}
-use Rattle.session.specs.Documents.{Begins, Follows}
-use Rattle.session.specs.Endings.{Ending, Closes, Restarts, Reboots, Fails, Breaks, Forgets, Starves, Declines, Full, Idle, is_failing, status_of_ending}
+use Rattle.session.specs.Calls.{IsOrEdge, IsPendingAs, LinesPrinted, ChangesArtifactsAlone, StandsBehind, StandsWhole}
+use Rattle.session.specs.Documents.{PlanEnding, TakenEnding}
+use Rattle.session.specs.Endings.{Ending, ByClose, ByRestart, ByReboot, ByDiskFault, BySinkFault, WantAfter, WantBefore, ByDecline, Full, Idle}
+use Rattle.session.specs.Endings.{is_failing, status_of_ending}
 use Rattle.session.specs.declared.ran.Ran.{Ran}
 use Rattle.session.specs.declared.ran.Ran.TheVariants as ran
 use Rattle.session.specs.declared.ran.Standing.{Standing}
@@ -50,10 +51,10 @@ abbrev pub standing_of : Presence → Standing
 standing_of presences.Present = standings.OfSet
 standing_of presences.Absent = standings.Nobody
 
--- The device is in hand: nothing is open, no component may act, and no failure is still to be told. From here all may be stopped, or
+-- The device is in hand: nothing is open, no component may act, and no failure is still owed. From here all may be stopped, or
 -- the next document is taken.
 pub record IsReturned (q : SessionState) (d : Device) (world : Components) (told : Told) (living : List ℕ) : Type 0 where
-  pub stands : Stands q d world told living
+  pub stands : IsStateOf q d world told living
   pub quiet : IsQuiet q.world
   pub orderly : IsOrderly q.world
   pub idle_is : d.pending ≡ None
@@ -66,7 +67,7 @@ pub record IsReturned (q : SessionState) (d : Device) (world : Components) (told
 -- Nothing is open, no failure is owed, and all components are stopped.
 pub record IsShut (p : SessionState) : Type 0 where
   pub stopped : is_stopped p.world ≡ true
-  pub told : list_any owes p.world.parts ≡ false
+  pub owes_none : list_any owes p.world.parts ≡ false
   pub boot : p.boot ≡ None
   pub boot_end : p.boot_end ≡ None
   pub over : p.over ≡ false
@@ -132,14 +133,14 @@ IsUnbegun p h = AllByRecursion IsLast h × (is_stopped p.world ≡ true → h �
 -- The last record is that the deployment closed so, and nothing is pending; or it asks for the restart or the reboot of the
 -- pending deployment. Want of memory leaves no deployment unfinished that was begun or driven on.
 abbrev pub EndsPart : SessionState → Ending → List TraceEvent → Type 0
-EndsPart p (Closes o) h = ClosesAs o (records_of h) × ((state_after p h).device.pending ≡ None)
-EndsPart p (Restarts id) h = AsksFor booted.Restart (records_of h) (state_after p h).device × IsPendingAs id (state_after p h).device
-EndsPart p (Reboots id) h = AsksFor booted.Reboot (records_of h) (state_after p h).device × IsPendingAs id (state_after p h).device
-EndsPart p Fails h = ⊤
-EndsPart p Breaks h = ⊤
-EndsPart p Forgets h = (o : Outcome) × ClosesAs o (records_of h)
-EndsPart p Starves h = IsUnbegun p h
-EndsPart p (Declines d) h = IsUnbegun p h
+EndsPart p (ByClose o) h = ClosesAs o (records_of h) × ((state_after p h).device.pending ≡ None)
+EndsPart p (ByRestart id) h = AsksFor booted.Restart (records_of h) (state_after p h).device × IsPendingAs id (state_after p h).device
+EndsPart p (ByReboot id) h = AsksFor booted.Reboot (records_of h) (state_after p h).device × IsPendingAs id (state_after p h).device
+EndsPart p ByDiskFault h = ⊤
+EndsPart p BySinkFault h = ⊤
+EndsPart p WantAfter h = (o : Outcome) × ClosesAs o (records_of h)
+EndsPart p WantBefore h = IsUnbegun p h
+EndsPart p (ByDecline d) h = IsUnbegun p h
 EndsPart p (Full at) h = IsUnbegun p h
 EndsPart p Idle h = IsUnbegun p h × ((state_after p h).device.pending ≡ None)
 
@@ -160,7 +161,7 @@ module _ (entries : Image → List (List ℕ) → Type 0) (files : List ℕ → 
     pub after : ChangesArtifactsAlone may_leave moment left_since to new
     pub ending : Ending
     pub answers : IsOrEdge status (status_of_ending ending)
-    pub prints : Prints old_held new_held p.device (records_of history) ending status (StandsBehind entries may_leave new p history)
+    pub prints : LinesPrinted old_held new_held p.device (records_of history) ending status (StandsBehind entries may_leave new p history)
     pub ends : EndsPart p ending history
     pub left : leaves ending (state_after p history)
     pub stands : (c : Image) → may_leave new c → StandsForMost entries p.device (records_of history) c
@@ -177,12 +178,12 @@ module _ (entries : Image → List (List ℕ) → Type 0) (files : List ℕ → 
     module _ {J : Type 0} (r : Ran J) (world : Components) (told : Told) (living : List ℕ) where
       -- the plan is driven, or put off
       abbrev pub RunsPlan : (ℕ → ℕ) → Plan → Type 0
-      RunsPlan start plan = (c : RunsPart r world told living) × Begins start plan c.ending (records_of c.history)
+      RunsPlan start plan = (c : RunsPart r world told living) × PlanEnding start plan c.ending (records_of c.history)
 
       -- so is a plan that was taken in, and a document that was not taken is declined
       abbrev pub RunsTaken : (ℕ → ℕ) → Result code.Plan Declined → Type 0
-      RunsTaken start taken = (c : RunsPart r world told living) × Follows start taken c.ending (records_of c.history)
+      RunsTaken start taken = (c : RunsPart r world told living) × TakenEnding start taken c.ending (records_of c.history)
 
-      -- At each moment each image stands for what a front of the records makes of the device, with all of its artifacts.
+      -- At each moment each image stands for what a prefix of the records makes of the device, with all of its artifacts.
       abbrev pub HasArtifacts : RunsPart r world told living → Type 0
-      HasArtifacts c = Leaves moment left_since old new (StandsWhole entries p.device (records_of c.history))
+      HasArtifacts c = HasLeft moment left_since old new (StandsWhole entries p.device (records_of c.history))

@@ -4,9 +4,9 @@ ghost use Rattle.nuc_base.specs.Faults.{Rose};
 ghost use Rattle.nuc_base.specs.declared.status.Status.TheVariants as statuses;
 ghost use Rattle.artifact_store.specs.Holding.{AllHoldDevice, HoldsDevice};
 ghost use Rattle.artifact_store.specs.Swept.{IsSwept, items_of};
-ghost use Rattle.disk_model.specs.Disk.{Leaves};
+ghost use Rattle.disk_model.specs.Disk.{HasLeft};
 ghost use Rattle.disk_model.specs.Listing.{artifacts, IsBelow};
-ghost use Rattle.disk_model.specs.Spares.{Spares};
+ghost use Rattle.disk_model.specs.Spares.{IsSameBut};
 ghost use Rattle.deploy_state.specs.States.{OwnsIdle, idle_device};
 ghost use Rattle.admission.specs.Takes.{LieElsewhere};
 ghost use Rattle.session_rollout.specs.Driven.{generation_left};
@@ -14,12 +14,12 @@ ghost use Rattle.session.specs.Parts.{EndsRan, IsOver, IsUnbegun, OwnsRan, RanLe
 ghost use Rattle.histories.specs.Phases.{Generation};
 ghost use Rattle.histories.specs.TraceEvents.{TraceEvent};
 ghost use Rattle.histories.specs.States.{SessionState, state_after};
-ghost use Rattle.session_boots.specs.Traces.{Acts};
+ghost use Rattle.session_boots.specs.Traces.{ActTrace};
 ghost use Rattle.session_startup.specs.Ended.{HasClosed};
 ghost use Rattle.refusal_lines.specs.Statuses.{status_of_outcome};
-ghost use Rattle.session.specs.Calls.{EndsClosed, SaysEnding, ChangesArtifactsAlone};
-ghost use Rattle.session.specs.Endings.{Fails};
-ghost use Rattle.deploy_state.specs.Objects.{Holds};
+ghost use Rattle.session.specs.Calls.{CloseEnding, SaysEnding, ChangesArtifactsAlone};
+ghost use Rattle.session.specs.Endings.{ByDiskFault};
+ghost use Rattle.deploy_state.specs.Objects.{OwnsOver};
 ghost use Rattle.session_boots.specs.Stages.{AsTold};
 
 use crate::giving::back_or_over;
@@ -47,11 +47,11 @@ fn sweep_behind<D: Disk, J: Journal + Drop, K: Sink>(
 ) -> Status
     ensures spared { ChangesArtifactsAlone D.may_leave D.moment D.left_since disk.old disk.new }
     // The device has its artifacts at each moment.
-    ensures safe { AllHoldDevice (D.may_leave disk.old) (idle_device idle.now) → Leaves D.moment D.left_since disk.old disk.new
+    ensures safe { AllHoldDevice (D.may_leave disk.old) (idle_device idle.now) → HasLeft D.moment D.left_since disk.old disk.new
         (λ c. HoldsDevice c (idle_device idle.now)) }
-    ensures others { IsTrue D.is_modelled → Spares (IsBelow artifacts) (D.seen disk.old) (D.seen disk.new) }
+    ensures others { IsTrue D.is_modelled → IsSameBut (IsBelow artifacts) (D.seen disk.old) (D.seen disk.new) }
     ensures ends { SaysEnding (K.held sink.old) (K.held sink.new) result
-        (λ e. EndsClosed outcome e × (e ≡ Fails → Rose (D.faults disk.old) (D.faults disk.new))) }
+        (λ e. CloseEnding outcome e × (e ≡ ByDiskFault → Rose (D.faults disk.old) (D.faults disk.new))) }
     ensures answers { (result ≡ status_of_outcome outcome) ⊎ (result ≡ statuses.Memory) ⊎ (result ≡ statuses.Disk) ⊎ (result ≡ statuses.Edge) }
     ensures disk { result ≡ statuses.Disk → Rose (D.faults disk.old) (D.faults disk.new) }
     ensures edge { result ≡ statuses.Edge → Rose (K.faults sink.old) (K.faults sink.new) }
@@ -89,24 +89,24 @@ pub(crate) fn end_closed<D: Disk, J: Journal + Drop, K: Sink, R: Runner, S: Supe
     runner: &mut R,
     supervisor: &S,
 ) -> Ran<J>
-    requires held { Holds D.Disk J.Journal OwnsIdle idle disk.old }
+    requires held { OwnsOver D.Disk J.Journal OwnsIdle idle disk.old }
     requires apart { LieElsewhere J.files }
-    requires placed { (p : SessionState) × (h : List TraceEvent) ×
+    requires from_state { (p : SessionState) × (h : List TraceEvent) ×
         AsTold R.Runner runner.old (HasClosed outcome (generation_left presence) h p (idle_device idle) (S.world supervisor.now)) }
     ensures trace { (p : SessionState) → (h : List TraceEvent) → (before : Generation) →
         AsTold R.Runner runner.old (HasClosed outcome (generation_left presence) h p (idle_device idle) (S.world supervisor.now)) →
-        (k : List TraceEvent) × Acts p k (R.list runner.old) (R.list runner.new) × IsUnbegun p k ×
+        (k : List TraceEvent) × ActTrace p k (R.list runner.old) (R.list runner.new) × IsUnbegun p k ×
         ((rose : Bool) → AsTold R.Runner runner.new (RanLeft before result rose (state_after p k) (S.world supervisor.now))) }
     ensures none { IsOver result → R.living runner.new ≡ [] }
     ensures ends_call { EndsRan result }
-    ensures held { Holds D.Disk J.Journal OwnsRan result disk.new }
+    ensures held { OwnsOver D.Disk J.Journal OwnsRan result disk.new }
     ensures spared { ChangesArtifactsAlone D.may_leave D.moment D.left_since disk.old disk.new }
     // The device has its artifacts at each moment.
-    ensures safe { AllHoldDevice (D.may_leave disk.old) (idle_device idle) → Leaves D.moment D.left_since disk.old disk.new
+    ensures safe { AllHoldDevice (D.may_leave disk.old) (idle_device idle) → HasLeft D.moment D.left_since disk.old disk.new
         (λ c. HoldsDevice c (idle_device idle)) }
-    ensures others { IsTrue D.is_modelled → Spares (IsBelow artifacts) (D.seen disk.old) (D.seen disk.new) }
+    ensures others { IsTrue D.is_modelled → IsSameBut (IsBelow artifacts) (D.seen disk.old) (D.seen disk.new) }
     ensures ends { SaysEnding (K.held sink.old) (K.held sink.new) (status_of_ran result)
-        (λ e. EndsClosed outcome e × (e ≡ Fails → Rose (D.faults disk.old) (D.faults disk.new))) }
+        (λ e. CloseEnding outcome e × (e ≡ ByDiskFault → Rose (D.faults disk.old) (D.faults disk.new))) }
     ensures answers { (status_of_ran result ≡ status_of_outcome outcome) ⊎ (status_of_ran result ≡ statuses.Memory) ⊎ (status_of_ran result ≡ statuses.Disk) ⊎
         (status_of_ran result ≡ statuses.Edge) }
     ensures disk { status_of_ran result ≡ statuses.Disk → Rose (D.faults disk.old) (D.faults disk.new) }

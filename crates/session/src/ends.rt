@@ -5,22 +5,22 @@ ghost use Rattle.nuc_base.specs.declared.kinds.Outcome.{Outcome};
 ghost use Rattle.nuc_base.specs.declared.status.Status.TheVariants as statuses;
 ghost use Rattle.artifact_store.specs.Holding.{AllHoldDevice, HoldsDevice};
 ghost use Rattle.artifact_store.specs.Swept.{IsSwept, items_of};
-ghost use Rattle.disk_model.specs.Disk.{Leaves};
+ghost use Rattle.disk_model.specs.Disk.{HasLeft};
 ghost use Rattle.disk_model.specs.Listing.{artifacts, IsBelow};
-ghost use Rattle.disk_model.specs.Spares.{Spares};
+ghost use Rattle.disk_model.specs.Spares.{IsSameBut};
 ghost use Rattle.histories.specs.Phases.{Generation};
 ghost use Rattle.histories.specs.TraceEvents.{TraceEvent};
 ghost use Rattle.histories.specs.States.{SessionState, state_after};
 ghost use Rattle.deploy_state.specs.States.{loaded_device};
 ghost use Rattle.session_boots.specs.Lines.{id_of};
-ghost use Rattle.session_boots.specs.Traces.{Acts};
+ghost use Rattle.session_boots.specs.Traces.{ActTrace};
 ghost use Rattle.session_rollout.specs.Driven.{DrivenLeft, OwnsDriven, driven_device};
 ghost use Rattle.admission.specs.Takes.{LieElsewhere};
 ghost use Rattle.session.specs.Parts.{EndsRan, IsOver, IsUnbegun, OwnsRan, RanLeft, status_of_ran};
-ghost use Rattle.session.specs.Calls.{AnswersFor, EndsFor, IsOrEdge, SaysEnding, SaysLine, ChangesArtifactsAlone};
-ghost use Rattle.session.specs.Endings.{Fails};
+ghost use Rattle.session.specs.Calls.{DrivenStatus, DrivenEnding, IsOrEdge, SaysEnding, SaysLine, ChangesArtifactsAlone};
+ghost use Rattle.session.specs.Endings.{ByDiskFault};
 ghost use Rattle.refusal_lines.specs.Statuses.{status_of_outcome};
-ghost use Rattle.deploy_state.specs.Objects.{Holds};
+ghost use Rattle.deploy_state.specs.Objects.{OwnsOver};
 ghost use Rattle.session_boots.specs.Stages.{AsTold};
 
 use crate::closes::end_closed;
@@ -63,24 +63,24 @@ fn end_driven<D: Disk, J: Journal + Drop, K: Sink, R: Runner, S: Supervise>(
     runner: &mut R,
     supervisor: &S,
 ) -> Ran<J>
-    requires held { Holds D.Disk J.Journal OwnsDriven driven disk.old }
+    requires held { OwnsOver D.Disk J.Journal OwnsDriven driven disk.old }
     requires apart { LieElsewhere J.files }
-    requires placed { (p : SessionState) × (h : List TraceEvent) × AsTold R.Runner runner.old (DrivenLeft driven h p (S.world supervisor.now)) }
+    requires from_state { (p : SessionState) × (h : List TraceEvent) × AsTold R.Runner runner.old (DrivenLeft driven h p (S.world supervisor.now)) }
     ensures trace { (p : SessionState) → (h : List TraceEvent) → (before : Generation) →
         AsTold R.Runner runner.old (DrivenLeft driven h p (S.world supervisor.now)) →
-        (k : List TraceEvent) × Acts p k (R.list runner.old) (R.list runner.new) × IsUnbegun p k ×
+        (k : List TraceEvent) × ActTrace p k (R.list runner.old) (R.list runner.new) × IsUnbegun p k ×
         ((rose : Bool) → AsTold R.Runner runner.new (RanLeft before result rose (state_after p k) (S.world supervisor.now))) }
     ensures none { IsOver result → R.living runner.new ≡ [] }
     ensures ends_call { EndsRan result }
-    ensures held { Holds D.Disk J.Journal OwnsRan result disk.new }
+    ensures held { OwnsOver D.Disk J.Journal OwnsRan result disk.new }
     ensures spared { ChangesArtifactsAlone D.may_leave D.moment D.left_since disk.old disk.new }
     // The device has its artifacts at each moment.
-    ensures safe { AllHoldDevice (D.may_leave disk.old) (driven_device driven) → Leaves D.moment D.left_since disk.old disk.new
+    ensures safe { AllHoldDevice (D.may_leave disk.old) (driven_device driven) → HasLeft D.moment D.left_since disk.old disk.new
         (λ c. HoldsDevice c (driven_device driven)) }
-    ensures others { IsTrue D.is_modelled → Spares (IsBelow artifacts) (D.seen disk.old) (D.seen disk.new) }
-    ensures ends { SaysEnding (K.held sink.old) (K.held sink.new) (status_of_ran result) (λ e. EndsFor (Ok driven) e ×
-        (e ≡ Fails → Rose (D.faults disk.old) (D.faults disk.new))) }
-    ensures answers { AnswersFor (Ok driven) (status_of_ran result) }
+    ensures others { IsTrue D.is_modelled → IsSameBut (IsBelow artifacts) (D.seen disk.old) (D.seen disk.new) }
+    ensures ends { SaysEnding (K.held sink.old) (K.held sink.new) (status_of_ran result) (λ e. DrivenEnding (Ok driven) e ×
+        (e ≡ ByDiskFault → Rose (D.faults disk.old) (D.faults disk.new))) }
+    ensures answers { DrivenStatus (Ok driven) (status_of_ran result) }
     ensures disk { status_of_ran result ≡ statuses.Disk → Rose (D.faults disk.old) (D.faults disk.new) }
     ensures edge { status_of_ran result ≡ statuses.Edge → Rose (K.faults sink.old) (K.faults sink.new) }
     ensures quiet_disk { status_of_ran result ≢ statuses.Disk → status_of_ran result ≢ statuses.Edge → D.faults disk.new ≡ D.faults disk.old }
@@ -116,29 +116,30 @@ pub(crate) fn end_call<D: Disk, J: Journal + Drop, K: Sink, R: Runner, S: Superv
     runner: &mut R,
     supervisor: &S,
 ) -> Ran<J>
-    requires held { IfOk driven (λ x. Holds D.Disk J.Journal OwnsDriven x disk.old) }
+    requires held { IfOk driven (λ x. OwnsOver D.Disk J.Journal OwnsDriven x disk.old) }
     requires apart { LieElsewhere J.files }
-    requires placed { IfOk driven (λ x. (p : SessionState) × (h : List TraceEvent) × AsTold R.Runner runner.old (DrivenLeft x h p (S.world supervisor.now))) }
+    requires from_state { IfOk driven (λ x. (p : SessionState) × (h : List TraceEvent) ×
+        AsTold R.Runner runner.old (DrivenLeft x h p (S.world supervisor.now))) }
     requires none { OnErr driven (R.living runner.old ≡ []) }
     ensures trace { IfOk driven (λ x. (p : SessionState) → (h : List TraceEvent) → (before : Generation) →
         AsTold R.Runner runner.old (DrivenLeft x h p (S.world supervisor.now)) →
-        (k : List TraceEvent) × Acts p k (R.list runner.old) (R.list runner.new) × IsUnbegun p k ×
+        (k : List TraceEvent) × ActTrace p k (R.list runner.old) (R.list runner.new) × IsUnbegun p k ×
         ((rose : Bool) → AsTold R.Runner runner.new (RanLeft before result rose (state_after p k) (S.world supervisor.now)))) }
     ensures over { OnErr driven (IsOver result) }
     ensures still { OnErr driven (R.list runner.new ≡ R.list runner.old) }
     ensures none { IsOver result → R.living runner.new ≡ [] }
     ensures ends_call { EndsRan result }
-    ensures held { Holds D.Disk J.Journal OwnsRan result disk.new }
+    ensures held { OwnsOver D.Disk J.Journal OwnsRan result disk.new }
     ensures spared { ChangesArtifactsAlone D.may_leave D.moment D.left_since disk.old disk.new }
     // The device has its artifacts at each moment.
-    ensures safe { IfOk driven (λ x. AllHoldDevice (D.may_leave disk.old) (driven_device x) → Leaves D.moment D.left_since disk.old disk.new
+    ensures safe { IfOk driven (λ x. AllHoldDevice (D.may_leave disk.old) (driven_device x) → HasLeft D.moment D.left_since disk.old disk.new
         (λ c. HoldsDevice c (driven_device x))) }
-    ensures others { IsTrue D.is_modelled → Spares (IsBelow artifacts) (D.seen disk.old) (D.seen disk.new) }
+    ensures others { IsTrue D.is_modelled → IsSameBut (IsBelow artifacts) (D.seen disk.old) (D.seen disk.new) }
     ensures ends { SaysEnding (K.held sink.old) (K.held sink.new) (status_of_ran result)
-        (λ e. EndsFor driven e × (e ≡ Fails → (IsErrOf driven SessionFault.Disk) ⊎ Rose (D.faults disk.old) (D.faults disk.new))) }
+        (λ e. DrivenEnding driven e × (e ≡ ByDiskFault → (IsErrOf driven SessionFault.Disk) ⊎ Rose (D.faults disk.old) (D.faults disk.new))) }
     ensures unswept { OnErr driven (disk.new ≡ disk.old) }
     ensures silent { IsErrOf driven SessionFault.Output → K.held sink.new ≡ K.held sink.old }
-    ensures answers { AnswersFor driven (status_of_ran result) }
+    ensures answers { DrivenStatus driven (status_of_ran result) }
     ensures disk { status_of_ran result ≡ statuses.Disk → (IsErrOf driven SessionFault.Disk) ⊎ Rose (D.faults disk.old) (D.faults disk.new) }
     ensures edge { status_of_ran result ≡ statuses.Edge → (IsErrOf driven SessionFault.Output) ⊎ Rose (K.faults sink.old) (K.faults sink.new) }
     ensures quiet_disk { status_of_ran result ≢ statuses.Disk → status_of_ran result ≢ statuses.Edge → D.faults disk.new ≡ D.faults disk.old }

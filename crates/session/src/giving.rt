@@ -6,7 +6,7 @@ ghost use Rattle.histories.specs.Courses.{IsBare, gives_up, is_restart};
 ghost use Rattle.histories.specs.Phases.{Generation};
 ghost use Rattle.histories.specs.TraceEvents.{TraceEvent};
 ghost use Rattle.histories.specs.States.{SessionState, state_after};
-ghost use Rattle.session_boots.specs.Traces.{Acts};
+ghost use Rattle.session_boots.specs.Traces.{ActTrace};
 ghost use Rattle.session_boots.specs.Stages.{AsTold};
 ghost use Rattle.session_transitions.specs.Kills.{KeepsRest};
 ghost use Rattle.session.specs.Parts.{IsGeneration, IsOver, IsReturned, IsUnbegun, MayGiveUp, RanLeft, came_of};
@@ -31,10 +31,10 @@ pub(crate) fn give_up<J: Journal + Drop, R: Runner, S: Supervise>(
     runner: &mut R,
     supervisor: &S,
 ) -> Ran<J>
-    requires placed { (p : SessionState) × AsTold R.Runner runner.old (MayGiveUp p (S.world supervisor.now)) }
+    requires from_state { (p : SessionState) × AsTold R.Runner runner.old (MayGiveUp p (S.world supervisor.now)) }
     // Where no component stands nothing is done.
     ensures trace { (p : SessionState) → AsTold R.Runner runner.old (MayGiveUp p (S.world supervisor.now)) →
-        (k : List TraceEvent) × Acts p k (R.list runner.old) (R.list runner.new) × IsUnbegun p k × KeepsRest p (state_after p k) ×
+        (k : List TraceEvent) × ActTrace p k (R.list runner.old) (R.list runner.new) × IsUnbegun p k × KeepsRest p (state_after p k) ×
         IsBare (state_after p k) }
     ensures none { R.living runner.new ≡ [] }
     ensures over { result ≡ Ran.Over status }
@@ -56,10 +56,10 @@ pub(crate) fn back_or_over<J: Journal + Drop, R: Runner, S: Supervise>(
     supervisor: &S,
 ) -> Ran<J>
     requires other { is_restart status ≡ false }
-    requires placed { (p : SessionState) × AsTold R.Runner runner.old (IsReturned p (idle_device idle) (S.world supervisor.now)) }
+    requires from_state { (p : SessionState) × AsTold R.Runner runner.old (IsReturned p (idle_device idle) (S.world supervisor.now)) }
     ensures trace { (p : SessionState) → (before : Generation) → AsTold R.Runner runner.old (IsReturned p (idle_device idle) (S.world supervisor.now)) →
         IsGeneration standing before p.generation →
-        (k : List TraceEvent) × Acts p k (R.list runner.old) (R.list runner.new) × IsUnbegun p k ×
+        (k : List TraceEvent) × ActTrace p k (R.list runner.old) (R.list runner.new) × IsUnbegun p k ×
         ((rose : Bool) → AsTold R.Runner runner.new (RanLeft before result rose (state_after p k) (S.world supervisor.now))) }
     ensures none { IsOver result → R.living runner.new ≡ [] }
     ensures exact { result ≡ came_of idle status standing }

@@ -16,15 +16,15 @@ ghost use Rattle.admission.specs.Takes.{HasDiskFailed, HasLibraryFailed, LieElse
 ghost use Rattle.admission.specs.declared.fault.Declined.{Declined};
 ghost use Rattle.deploy_state.specs.Objects.{entry_start};
 ghost use Rattle.session.specs.Objects.{AcceptsTakenOn, HasArtifactsOn, RunsTakenOn};
-ghost use Rattle.session.specs.Calls.{Elsewhere, Stays};
-ghost use Rattle.session.specs.Endings.{Fails};
+ghost use Rattle.session.specs.Calls.{AreOthersSame, HasNotFallen};
+ghost use Rattle.session.specs.Endings.{ByDiskFault};
 ghost use Rattle.session.specs.Parts.{IsBack, IsOver, OwnsRan, TakesLast, status_of_ran};
 ghost use Rattle.session.specs.Sweeping.{LeavesNoStray};
-ghost use Rattle.deploy_state.specs.Objects.{Holds};
+ghost use Rattle.deploy_state.specs.Objects.{OwnsOver};
 ghost use Rattle.session_boots.specs.Stages.{AsTold};
 ghost use Rattle.session_transitions.specs.Enters.{RunOn};
 ghost use Rattle.law_supervisor.specs.Sound.{IsOrderly};
-ghost use Rattle.law_termination.specs.Drives.{Drives};
+ghost use Rattle.law_termination.specs.Drives.{AreDriven};
 ghost use Rattle.components.specs.Changes.{standing};
 
 use crate::declines::say_declined;
@@ -56,16 +56,16 @@ pub fn run_made<D: Disk, J: Journal + Drop, L: Library, K: Sink, R: Runner, S: S
 ) -> Ran<J>
 where
     S::Ready: Drop,
-    requires held { Holds D.Disk J.Journal OwnsIdle idle disk.old }
+    requires held { OwnsOver D.Disk J.Journal OwnsIdle idle disk.old }
     // The journal does not lie among the files of artifacts.
     requires apart { LieElsewhere J.files }
     requires roots { IfOk made (λ document. AreSound document.roots) }
     // It came to none for a reason of its own: nothing outside failed.
     requires inside { IfErr made (λ x. IsInside x) }
-    requires drives { Drives (S.world supervisor.old) }
+    requires drives { AreDriven (S.world supervisor.old) }
     requires orderly { IsOrderly (S.world supervisor.old) }
     requires made { RunOn (idle_device idle) (standing (S.world supervisor.old).parts) }
-    requires placed { (p : SessionState) × AsTold R.Runner runner.old (IsOpen p (idle_device idle) (S.world supervisor.old)) }
+    requires from_state { (p : SessionState) × AsTold R.Runner runner.old (IsOpen p (idle_device idle) (S.world supervisor.old)) }
     // Where the images at the start have the artifacts that are needed, so has each of each moment. The call ends as one whose
     // disk failed only where the disk's count rose, and its document is declined for the disk or for the library only where the
     // count of that rose.
@@ -77,20 +77,20 @@ where
         (entry_start J.Journal idle) taken)
         × (AllHoldDevice (D.may_leave disk.old) p.device → HasArtifactsOn D.Disk J.Journal K.Sink R.Runner disk.old disk.new sink.old sink.new runner.old
         runner.new p result (S.world supervisor.new) t.0)
-        × (t.0.ending ≡ Fails → Rose (D.faults disk.old) (D.faults disk.new))
+        × (t.0.ending ≡ ByDiskFault → Rose (D.faults disk.old) (D.faults disk.new))
         × (HasDiskFailed taken → Rose (D.faults disk.old) (D.faults disk.new))
         × (HasLibraryFailed taken → Rose (L.faults library.old) (L.faults library.new))
         × AcceptsTakenOn D.Disk J.Journal disk.old disk.new idle taken t.0.ending (records_of t.0.history) }
     // Where it comes back the components are as the deployment left them, and else no child lives.
     ensures none { IsOver result → R.living runner.new ≡ [] }
-    ensures drives { IsBack result → Drives (S.world supervisor.new) }
-    ensures held { Holds D.Disk J.Journal OwnsRan result disk.new }
-    ensures others { IsTrue D.is_modelled → Elsewhere J.files (D.seen disk.old) (D.seen disk.new) }
+    ensures drives { IsBack result → AreDriven (S.world supervisor.new) }
+    ensures held { OwnsOver D.Disk J.Journal OwnsRan result disk.new }
+    ensures others { IsTrue D.is_modelled → AreOthersSame J.files (D.seen disk.old) (D.seen disk.new) }
     ensures disk { status_of_ran result ≡ statuses.Disk → Rose (D.faults disk.old) (D.faults disk.new) }
     ensures edge { status_of_ran result ≡ statuses.Edge → Rose (K.faults sink.old) (K.faults sink.new) }
     ensures quiet_disk { status_of_ran result ≢ statuses.Disk → status_of_ran result ≢ statuses.Edge → D.faults disk.new ≡ D.faults disk.old }
     ensures quiet_sink { status_of_ran result ≢ statuses.Edge → K.faults sink.new ≡ K.faults sink.old }
-    ensures later { Stays (D.faults disk.old) (D.faults disk.new) × Stays (K.faults sink.old) (K.faults sink.new) }
+    ensures later { HasNotFallen (D.faults disk.old) (D.faults disk.new) × HasNotFallen (K.faults sink.old) (K.faults sink.new) }
     // No stray file is left where none was there at the start.
     ensures swept { (IsTrue D.is_modelled → IsSwept (items_of (idle_device idle)) (D.seen disk.old)) → LeavesNoStray D.is_modelled J.entries
         (status_of_ran result)

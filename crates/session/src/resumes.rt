@@ -13,13 +13,13 @@ ghost use Rattle.histories.specs.States.{SessionState};
 ghost use Rattle.session_admission.specs.Readied.{AreReadiedFor};
 ghost use Rattle.admission.specs.Takes.{LieElsewhere};
 ghost use Rattle.session.specs.Objects.{HasArtifactsOn, RunsPartOn};
-ghost use Rattle.session.specs.Calls.{Elsewhere, IsOrEdge, SaysLine, Stays, resumed_line};
+ghost use Rattle.session.specs.Calls.{AreOthersSame, IsOrEdge, SaysLine, HasNotFallen, resumed_line};
 ghost use Rattle.session.specs.Parts.{EndsRan, IsBack, IsOver, OwnsRan, TakesNone, status_of_ran};
 ghost use Rattle.law_supervisor.specs.Sound.{IsOrderly};
-ghost use Rattle.law_termination.specs.Drives.{Drives};
-ghost use Rattle.session.specs.Endings.{Fails, Resumes};
+ghost use Rattle.law_termination.specs.Drives.{AreDriven};
+ghost use Rattle.session.specs.Endings.{ByDiskFault, ResumeEnding};
 ghost use Rattle.session.specs.Sweeping.{LeavesNoStray};
-ghost use Rattle.deploy_state.specs.Objects.{Holds};
+ghost use Rattle.deploy_state.specs.Objects.{OwnsOver};
 ghost use Rattle.session_boots.specs.Stages.{AsTold};
 
 use crate::ends::end_call;
@@ -80,34 +80,34 @@ fn resume_ready<D: Disk, J: Journal + Drop, K: Sink, R: Runner, S: Supervise>(
 ) -> Ran<J>
 where
     S::Ready: Drop,
-    requires held { Holds D.Disk J.Journal OwnsLoaded state disk.old }
+    requires held { OwnsOver D.Disk J.Journal OwnsLoaded state disk.old }
     requires pending { IsSome (loaded_device state).pending }
     requires ready { AreReadiedFor (loaded_device state) ready.boots ready.backs (S.coming ready.items) (S.coming ready.earlier) }
     // The journal does not lie among the files of artifacts.
     requires apart { LieElsewhere J.files }
-    requires drives { Drives (S.world supervisor.old) }
+    requires drives { AreDriven (S.world supervisor.old) }
     requires orderly { IsOrderly (S.world supervisor.old) }
-    requires placed { (p : SessionState) × AsTold R.Runner runner.old (IsAtBootStage p (loaded_device state) (S.world supervisor.old)) }
+    requires from_state { (p : SessionState) × AsTold R.Runner runner.old (IsAtBootStage p (loaded_device state) (S.world supervisor.old)) }
     // Where the images at the start have the device's artifacts, each of each moment has those of the device for which it stands.
     // The call ends as one whose disk failed only where the disk's count rose.
     ensures call { (p : SessionState) → AsTold R.Runner runner.old (IsAtBootStage p (loaded_device state) (S.world supervisor.old)) → TakesNone p →
         (c : RunsPartOn D.Disk J.Journal K.Sink R.Runner disk.old disk.new sink.old sink.new runner.old runner.new p result (S.world supervisor.new))
-        × Resumes (loaded_device state) c.ending
+        × ResumeEnding (loaded_device state) c.ending
         × (AllHoldDevice (D.may_leave disk.old) p.device → HasArtifactsOn D.Disk J.Journal K.Sink R.Runner disk.old disk.new sink.old sink.new runner.old
         runner.new p result (S.world supervisor.new) c)
-        × (c.ending ≡ Fails → Rose (D.faults disk.old) (D.faults disk.new)) }
+        × (c.ending ≡ ByDiskFault → Rose (D.faults disk.old) (D.faults disk.new)) }
     ensures own { status_of_ran result ≢ statuses.Library }
     // Where it comes back the components are as the deployment left them, and else no child lives.
     ensures none { IsOver result → R.living runner.new ≡ [] }
     ensures ends_call { EndsRan result }
-    ensures drives { IsBack result → Drives (S.world supervisor.new) }
-    ensures held { Holds D.Disk J.Journal OwnsRan result disk.new }
-    ensures others { IsTrue D.is_modelled → Elsewhere J.files (D.seen disk.old) (D.seen disk.new) }
+    ensures drives { IsBack result → AreDriven (S.world supervisor.new) }
+    ensures held { OwnsOver D.Disk J.Journal OwnsRan result disk.new }
+    ensures others { IsTrue D.is_modelled → AreOthersSame J.files (D.seen disk.old) (D.seen disk.new) }
     ensures disk { status_of_ran result ≡ statuses.Disk → Rose (D.faults disk.old) (D.faults disk.new) }
     ensures edge { status_of_ran result ≡ statuses.Edge → Rose (K.faults sink.old) (K.faults sink.new) }
     ensures quiet_disk { status_of_ran result ≢ statuses.Disk → status_of_ran result ≢ statuses.Edge → D.faults disk.new ≡ D.faults disk.old }
     ensures quiet_sink { status_of_ran result ≢ statuses.Edge → K.faults sink.new ≡ K.faults sink.old }
-    ensures later { Stays (D.faults disk.old) (D.faults disk.new) × Stays (K.faults sink.old) (K.faults sink.new) }
+    ensures later { HasNotFallen (D.faults disk.old) (D.faults disk.new) × HasNotFallen (K.faults sink.old) (K.faults sink.new) }
     // No stray file is left where none was there at the start.
     ensures swept { (IsTrue D.is_modelled → IsSwept (items_of (loaded_device state)) (D.seen disk.old)) →
         LeavesNoStray D.is_modelled J.entries (status_of_ran result)
@@ -137,33 +137,33 @@ fn resume_pending<D: Disk, J: Journal + Drop, K: Sink, R: Runner, S: Supervise>(
 ) -> Ran<J>
 where
     S::Ready: Drop,
-    requires held { Holds D.Disk J.Journal OwnsLoaded state disk.old }
+    requires held { OwnsOver D.Disk J.Journal OwnsLoaded state disk.old }
     requires pending { IsSome (loaded_device state).pending }
     // The journal does not lie among the files of artifacts.
     requires apart { LieElsewhere J.files }
-    requires drives { Drives (S.world supervisor.old) }
+    requires drives { AreDriven (S.world supervisor.old) }
     requires orderly { IsOrderly (S.world supervisor.old) }
-    requires placed { (p : SessionState) × AsTold R.Runner runner.old (IsAtBootStage p (loaded_device state) (S.world supervisor.old)) }
+    requires from_state { (p : SessionState) × AsTold R.Runner runner.old (IsAtBootStage p (loaded_device state) (S.world supervisor.old)) }
     // Where the images at the start have the device's artifacts, each of each moment has those of the device for which it stands.
     // The call ends as one whose disk failed only where the disk's count rose.
     ensures call { (p : SessionState) → AsTold R.Runner runner.old (IsAtBootStage p (loaded_device state) (S.world supervisor.old)) → TakesNone p →
         (c : RunsPartOn D.Disk J.Journal K.Sink R.Runner disk.old disk.new sink.old sink.new runner.old runner.new p result (S.world supervisor.new))
-        × Resumes (loaded_device state) c.ending
+        × ResumeEnding (loaded_device state) c.ending
         × (AllHoldDevice (D.may_leave disk.old) p.device → HasArtifactsOn D.Disk J.Journal K.Sink R.Runner disk.old disk.new sink.old sink.new runner.old
         runner.new p result (S.world supervisor.new) c)
-        × (c.ending ≡ Fails → Rose (D.faults disk.old) (D.faults disk.new)) }
+        × (c.ending ≡ ByDiskFault → Rose (D.faults disk.old) (D.faults disk.new)) }
     ensures own { status_of_ran result ≢ statuses.Library }
     // Where it comes back the components are as the deployment left them, and else no child lives.
     ensures none { IsOver result → R.living runner.new ≡ [] }
     ensures ends_call { EndsRan result }
-    ensures drives { IsBack result → Drives (S.world supervisor.new) }
-    ensures held { Holds D.Disk J.Journal OwnsRan result disk.new }
-    ensures others { IsTrue D.is_modelled → Elsewhere J.files (D.seen disk.old) (D.seen disk.new) }
+    ensures drives { IsBack result → AreDriven (S.world supervisor.new) }
+    ensures held { OwnsOver D.Disk J.Journal OwnsRan result disk.new }
+    ensures others { IsTrue D.is_modelled → AreOthersSame J.files (D.seen disk.old) (D.seen disk.new) }
     ensures disk { status_of_ran result ≡ statuses.Disk → Rose (D.faults disk.old) (D.faults disk.new) }
     ensures edge { status_of_ran result ≡ statuses.Edge → Rose (K.faults sink.old) (K.faults sink.new) }
     ensures quiet_disk { status_of_ran result ≢ statuses.Disk → status_of_ran result ≢ statuses.Edge → D.faults disk.new ≡ D.faults disk.old }
     ensures quiet_sink { status_of_ran result ≢ statuses.Edge → K.faults sink.new ≡ K.faults sink.old }
-    ensures later { Stays (D.faults disk.old) (D.faults disk.new) × Stays (K.faults sink.old) (K.faults sink.new) }
+    ensures later { HasNotFallen (D.faults disk.old) (D.faults disk.new) × HasNotFallen (K.faults sink.old) (K.faults sink.new) }
     // No stray file is left where none was there at the start.
     ensures swept { (IsTrue D.is_modelled → IsSwept (items_of (loaded_device state)) (D.seen disk.old)) →
         LeavesNoStray D.is_modelled J.entries (status_of_ran result)
@@ -192,32 +192,32 @@ pub fn resume<D: Disk, J: Journal + Drop, K: Sink, R: Runner, S: Supervise>(
 ) -> Ran<J>
 where
     S::Ready: Drop,
-    requires held { Holds D.Disk J.Journal OwnsLoaded state disk.old }
+    requires held { OwnsOver D.Disk J.Journal OwnsLoaded state disk.old }
     // The journal does not lie among the files of artifacts.
     requires apart { LieElsewhere J.files }
-    requires drives { Drives (S.world supervisor.old) }
+    requires drives { AreDriven (S.world supervisor.old) }
     requires orderly { IsOrderly (S.world supervisor.old) }
-    requires placed { (p : SessionState) × AsTold R.Runner runner.old (IsAtBootStage p (loaded_device state) (S.world supervisor.old)) }
+    requires from_state { (p : SessionState) × AsTold R.Runner runner.old (IsAtBootStage p (loaded_device state) (S.world supervisor.old)) }
     // Where the images at the start have the device's artifacts, each of each moment has those of the device for which it stands.
     // The call ends as one whose disk failed only where the disk's count rose.
     ensures call { (p : SessionState) → AsTold R.Runner runner.old (IsAtBootStage p (loaded_device state) (S.world supervisor.old)) → TakesNone p →
         (c : RunsPartOn D.Disk J.Journal K.Sink R.Runner disk.old disk.new sink.old sink.new runner.old runner.new p result (S.world supervisor.new))
-        × Resumes (loaded_device state) c.ending
+        × ResumeEnding (loaded_device state) c.ending
         × (AllHoldDevice (D.may_leave disk.old) p.device → HasArtifactsOn D.Disk J.Journal K.Sink R.Runner disk.old disk.new sink.old sink.new runner.old
         runner.new p result (S.world supervisor.new) c)
-        × (c.ending ≡ Fails → Rose (D.faults disk.old) (D.faults disk.new)) }
+        × (c.ending ≡ ByDiskFault → Rose (D.faults disk.old) (D.faults disk.new)) }
     ensures own { status_of_ran result ≢ statuses.Library }
     // Where it comes back the components are as the deployment left them, and else no child lives.
     ensures none { IsOver result → R.living runner.new ≡ [] }
     ensures ends_call { EndsRan result }
-    ensures drives { IsBack result → Drives (S.world supervisor.new) }
-    ensures held { Holds D.Disk J.Journal OwnsRan result disk.new }
-    ensures others { IsTrue D.is_modelled → Elsewhere J.files (D.seen disk.old) (D.seen disk.new) }
+    ensures drives { IsBack result → AreDriven (S.world supervisor.new) }
+    ensures held { OwnsOver D.Disk J.Journal OwnsRan result disk.new }
+    ensures others { IsTrue D.is_modelled → AreOthersSame J.files (D.seen disk.old) (D.seen disk.new) }
     ensures disk { status_of_ran result ≡ statuses.Disk → Rose (D.faults disk.old) (D.faults disk.new) }
     ensures edge { status_of_ran result ≡ statuses.Edge → Rose (K.faults sink.old) (K.faults sink.new) }
     ensures quiet_disk { status_of_ran result ≢ statuses.Disk → status_of_ran result ≢ statuses.Edge → D.faults disk.new ≡ D.faults disk.old }
     ensures quiet_sink { status_of_ran result ≢ statuses.Edge → K.faults sink.new ≡ K.faults sink.old }
-    ensures later { Stays (D.faults disk.old) (D.faults disk.new) × Stays (K.faults sink.old) (K.faults sink.new) }
+    ensures later { HasNotFallen (D.faults disk.old) (D.faults disk.new) × HasNotFallen (K.faults sink.old) (K.faults sink.new) }
     // No stray file is left where none was there at the start.
     ensures swept { (IsTrue D.is_modelled → IsSwept (items_of (loaded_device state)) (D.seen disk.old)) →
         LeavesNoStray D.is_modelled J.entries (status_of_ran result)

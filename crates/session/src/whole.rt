@@ -9,18 +9,18 @@ ghost use Rattle.histories.specs.States.{SessionState, state_after};
 ghost use Rattle.admission.specs.Takes.{LieElsewhere, HasDiskFailed, HasLibraryFailed};
 ghost use Rattle.deploy_state.specs.Objects.{entry_start};
 ghost use Rattle.session.specs.Objects.{AcceptsTakenOn, CallOn, DrivesTakenOn, KeepsArtifactsOn};
-ghost use Rattle.session.specs.Calls.{Elsewhere, Stays};
-ghost use Rattle.session.specs.Endings.{Fails, Resumes};
+ghost use Rattle.session.specs.Calls.{AreOthersSame, HasNotFallen};
+ghost use Rattle.session.specs.Endings.{ByDiskFault, ResumeEnding};
 ghost use Rattle.session.specs.Sweeping.{LeavesNoStray};
-ghost use Rattle.deploy_state.specs.Objects.{Holds};
+ghost use Rattle.deploy_state.specs.Objects.{OwnsOver};
 ghost use Rattle.session_boots.specs.Stages.{AsTold};
 ghost use Rattle.session_boots.specs.Stands.{IsAtBootStage};
-ghost use Rattle.law_termination.specs.Drives.{Drives};
+ghost use Rattle.law_termination.specs.Drives.{AreDriven};
 ghost use Rattle.components.specs.Components.{is_stopped};
 ghost use Rattle.histories.specs.Courses.{IsEnd};
 ghost use Rattle.histories.specs.Phases.{Generation};
 ghost use Rattle.histories.specs.TraceEvents.{TraceEvent, records_of};
-ghost use Rattle.session_boots.specs.Traces.{Acts};
+ghost use Rattle.session_boots.specs.Traces.{ActTrace};
 ghost use Rattle.session.specs.Parts.{IsBack, IsOver, IsReturned, IsShut, RanLeft, status_of_ran};
 ghost use Rattle.nuc_base.specs.declared.status.Status.TheVariants as statuses;
 ghost use Rattle.records.specs.declared.record.Origin.{Origin};
@@ -48,11 +48,11 @@ use step_runner::Runner;
 
 /// Stops all components that stand.
 fn stop_standing<R: Runner, S: Supervise>(runner: &mut R, supervisor: &mut S)
-    requires drives { Drives (S.world supervisor.old) }
-    requires placed { (p : SessionState) × (d : Device) × AsTold R.Runner runner.old (IsReturned p d (S.world supervisor.old)) × (p.serves ≡ false) }
+    requires drives { AreDriven (S.world supervisor.old) }
+    requires from_state { (p : SessionState) × (d : Device) × AsTold R.Runner runner.old (IsReturned p d (S.world supervisor.old)) × (p.serves ≡ false) }
     // Where none stands nothing is done.
     ensures trace { (p : SessionState) → (d : Device) → AsTold R.Runner runner.old (IsReturned p d (S.world supervisor.old)) → (p.serves ≡ false) →
-        (k : List TraceEvent) × Acts p k (R.list runner.old) (R.list runner.new) × IsShut (state_after p k) × (is_stopped p.world ≡ true → k ≡ []) }
+        (k : List TraceEvent) × ActTrace p k (R.list runner.old) (R.list runner.new) × IsShut (state_after p k) × (is_stopped p.world ≡ true → k ≡ []) }
     ensures none { R.living runner.new ≡ [] }
 {
     if supervisor.stopped() {
@@ -67,15 +67,15 @@ pub fn finish<J: Journal + Drop, R: Runner, S: Supervise>(
     runner: &mut R,
     supervisor: &mut S,
 ) -> Status
-    requires drives { IsBack ran → Drives (S.world supervisor.old) }
-    requires placed { (p : SessionState) × (before : Generation) × (rose : Bool) ×
+    requires drives { IsBack ran → AreDriven (S.world supervisor.old) }
+    requires from_state { (p : SessionState) × (before : Generation) × (rose : Bool) ×
         AsTold R.Runner runner.old (RanLeft before ran rose p (S.world supervisor.old)) ×
         (p.serves ≡ false) }
     requires none { IsOver ran → R.living runner.old ≡ [] }
     // Where none stands, or the call ended already, nothing is done.
     ensures trace { (p : SessionState) → (before : Generation) → (rose : Bool) →
         AsTold R.Runner runner.old (RanLeft before ran rose p (S.world supervisor.old)) → (p.serves ≡ false) →
-        (k : List TraceEvent) × Acts p k (R.list runner.old) (R.list runner.new) × IsEnd (state_after p k) result rose ×
+        (k : List TraceEvent) × ActTrace p k (R.list runner.old) (R.list runner.new) × IsEnd (state_after p k) result rose ×
         (is_stopped p.world ≡ true → k ≡ []) × (IsOver ran → k ≡ []) }
     ensures none { R.living runner.new ≡ [] }
     ensures status { result ≡ status_of_ran ran }
@@ -101,29 +101,30 @@ pub fn resume_to_end<D: Disk, J: Journal + Drop, K: Sink, R: Runner, S: Supervis
 ) -> Status
 where
     S::Ready: Drop,
-    requires held { Holds D.Disk J.Journal OwnsLoaded state disk.old }
+    requires held { OwnsOver D.Disk J.Journal OwnsLoaded state disk.old }
     // The journal does not lie among the files of artifacts.
     requires apart { LieElsewhere J.files }
     // No component stands.
     requires empty { (S.world supervisor.old).parts ≡ [] }
-    requires placed { (p : SessionState) × AsTold R.Runner runner.old (IsAtBootStage p (loaded_device state) (S.world supervisor.old)) × (p.serves ≡ false) }
+    requires from_state { (p : SessionState) ×
+        AsTold R.Runner runner.old (IsAtBootStage p (loaded_device state) (S.world supervisor.old)) × (p.serves ≡ false) }
     // Where the images at the start have the device's artifacts, each of each moment has those of the device for which it stands.
     // The call ends as one whose disk failed only where the disk's count rose.
     ensures call { (p : SessionState) → AsTold R.Runner runner.old (IsAtBootStage p (loaded_device state) (S.world supervisor.old)) → (p.serves ≡ false) →
         (p.taken ≡ is_some p.device.pending) →
         (c : CallOn D.Disk J.Journal K.Sink R.Runner disk.old disk.new sink.old sink.new runner.old runner.new p result)
-        × Resumes (loaded_device state) c.ending
+        × ResumeEnding (loaded_device state) c.ending
         × (AllHoldDevice (D.may_leave disk.old) p.device → KeepsArtifactsOn D.Disk J.Journal K.Sink R.Runner disk.old disk.new sink.old sink.new runner.old
         runner.new p result c)
-        × (c.ending ≡ Fails → Rose (D.faults disk.old) (D.faults disk.new)) }
+        × (c.ending ≡ ByDiskFault → Rose (D.faults disk.old) (D.faults disk.new)) }
     ensures own { result ≢ statuses.Library }
     ensures none { R.living runner.new ≡ [] }
-    ensures others { IsTrue D.is_modelled → Elsewhere J.files (D.seen disk.old) (D.seen disk.new) }
+    ensures others { IsTrue D.is_modelled → AreOthersSame J.files (D.seen disk.old) (D.seen disk.new) }
     ensures disk { result ≡ statuses.Disk → Rose (D.faults disk.old) (D.faults disk.new) }
     ensures edge { result ≡ statuses.Edge → Rose (K.faults sink.old) (K.faults sink.new) }
     ensures quiet_disk { result ≢ statuses.Disk → result ≢ statuses.Edge → D.faults disk.new ≡ D.faults disk.old }
     ensures quiet_sink { result ≢ statuses.Edge → K.faults sink.new ≡ K.faults sink.old }
-    ensures later { Stays (D.faults disk.old) (D.faults disk.new) × Stays (K.faults sink.old) (K.faults sink.new) }
+    ensures later { HasNotFallen (D.faults disk.old) (D.faults disk.new) × HasNotFallen (K.faults sink.old) (K.faults sink.new) }
     // No stray file is left where none was there at the start.
     ensures swept { (IsTrue D.is_modelled → IsSwept (items_of (loaded_device state)) (D.seen disk.old)) → LeavesNoStray D.is_modelled J.entries result
         (D.seen disk.new) }
@@ -145,14 +146,14 @@ pub fn run_made_to_end<D: Disk, J: Journal + Drop, L: Library, K: Sink, R: Runne
 ) -> Status
 where
     S::Ready: Drop,
-    requires held { Holds D.Disk J.Journal OwnsIdle idle disk.old }
+    requires held { OwnsOver D.Disk J.Journal OwnsIdle idle disk.old }
     // The journal does not lie among the files of artifacts.
     requires apart { LieElsewhere J.files }
     requires roots { IfOk made (λ document. AreSound document.roots) }
     requires inside { IfErr made (λ x. IsInside x) }
     // No component stands.
     requires empty { (S.world supervisor.old).parts ≡ [] }
-    requires placed { (p : SessionState) × AsTold R.Runner runner.old (IsOpen p (idle_device idle) (S.world supervisor.old)) × (p.serves ≡ false) }
+    requires from_state { (p : SessionState) × AsTold R.Runner runner.old (IsOpen p (idle_device idle) (S.world supervisor.old)) × (p.serves ≡ false) }
     // Where the images at the start have the artifacts that are needed, so has each of each moment. The call ends as one whose
     // disk failed only where the disk's count rose, and its document is declined for the disk or for the library only where the
     // count of that rose.
@@ -164,17 +165,17 @@ where
         taken)
         × (AllHoldDevice (D.may_leave disk.old) p.device → KeepsArtifactsOn D.Disk J.Journal K.Sink R.Runner disk.old disk.new sink.old sink.new runner.old
         runner.new p result t.0)
-        × (t.0.ending ≡ Fails → Rose (D.faults disk.old) (D.faults disk.new))
+        × (t.0.ending ≡ ByDiskFault → Rose (D.faults disk.old) (D.faults disk.new))
         × (HasDiskFailed taken → Rose (D.faults disk.old) (D.faults disk.new))
         × (HasLibraryFailed taken → Rose (L.faults library.old) (L.faults library.new))
         × AcceptsTakenOn D.Disk J.Journal disk.old disk.new idle taken t.0.ending (records_of t.0.history) }
     ensures none { R.living runner.new ≡ [] }
-    ensures others { IsTrue D.is_modelled → Elsewhere J.files (D.seen disk.old) (D.seen disk.new) }
+    ensures others { IsTrue D.is_modelled → AreOthersSame J.files (D.seen disk.old) (D.seen disk.new) }
     ensures disk { result ≡ statuses.Disk → Rose (D.faults disk.old) (D.faults disk.new) }
     ensures edge { result ≡ statuses.Edge → Rose (K.faults sink.old) (K.faults sink.new) }
     ensures quiet_disk { result ≢ statuses.Disk → result ≢ statuses.Edge → D.faults disk.new ≡ D.faults disk.old }
     ensures quiet_sink { result ≢ statuses.Edge → K.faults sink.new ≡ K.faults sink.old }
-    ensures later { Stays (D.faults disk.old) (D.faults disk.new) × Stays (K.faults sink.old) (K.faults sink.new) }
+    ensures later { HasNotFallen (D.faults disk.old) (D.faults disk.new) × HasNotFallen (K.faults sink.old) (K.faults sink.new) }
     // No stray file is left where none was there at the start.
     ensures swept { (IsTrue D.is_modelled → IsSwept (items_of (idle_device idle)) (D.seen disk.old)) → LeavesNoStray D.is_modelled J.entries result
         (D.seen disk.new) }

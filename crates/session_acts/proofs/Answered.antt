@@ -18,9 +18,9 @@ use Rattle.components.specs.Components.{Components, ComponentState, changed_at, 
 use Rattle.components.specs.Marks.{Flagged, flagged, flagged_at, grown, marked, may_restart, reaching, restarted}
 use Rattle.components.specs.Lives.{after_row, completed, drops_at, lived, lived_at, replaced, succeeds, with_failure_owed, with_failures_forgotten}
 use Rattle.components.specs.Lives.{with_new_item, with_stop_given}
-use Rattle.components.specs.Events.{answered_at, ended, gone_by, is_orphan_at, kill_event_at, killed, launched, refused, skipped, started, told_at, with_child}
+use Rattle.components.specs.Events.{answered_at, ended, gone_by, is_orphan_at, kill_event_at, killed, launched, refused, skipped, started, heard_at, with_child}
 use Rattle.components.specs.Changes.{forgetting, steadied}
-use Rattle.components.specs.Acts.{Move, Quietly}
+use Rattle.components.specs.Acts.{Move, MovesInOrder}
 use Rattle.components.specs.Answers.{has_answered}
 
 -- a start was handed out
@@ -173,7 +173,7 @@ same_lived_at k e w = by (drops_at k w e)
 
 -- ---- what befalls them
 
-pub free_moved : (w v : Components) (ms : List Move) → Quietly w ms v → handed_in v.parts ≡ handed_in w.parts
+pub free_moved : (w v : Components) (ms : List Move) → MovesInOrder w ms v → handed_in v.parts ≡ handed_in w.parts
 free_moved w v [] q = ap (λ (x : Components). handed_in x.parts) q
 free_moved w v (m ∷ ms) q = free_moved (lived_at m.who m.what w) v ms q.2 ∙ same_lived_at m.who m.what w
 
@@ -224,7 +224,7 @@ free_ended n e w = by (owner n w.parts)
     by None = refl
     by (Some o) = gone_by_same (Some (event.Ended o.1 e)) o.0 o.1 n w
 
-pub free_told : (k : ℕ) (w : Components) → handed_in (told_at k w).parts ≡ handed_in w.parts
+pub free_told : (k : ℕ) (w : Components) → handed_in (heard_at k w).parts ≡ handed_in w.parts
 free_told k w = same_at k (λ p. record p { owed = None }) w.parts (λ p. refl)
 
 forgetting_same : (ps : List ComponentState) → handed_in (map forgetting ps) ≡ handed_in ps

@@ -8,20 +8,20 @@ use Rattle.nuc_base.specs.declared.kinds.Step.TheVariants as step
 use Rattle.device.specs.Devices.{Device}
 use Rattle.lifecycle.specs.declared.kinds.LifeEvent.{LifeEvent}
 use Rattle.lifecycle.specs.declared.kinds.LifeEvent.TheVariants as event
-use Rattle.step_runner.specs.Entries.{Notes, Told}
+use Rattle.step_runner.specs.Entries.{HasNoted, Told}
 use Rattle.step_runner.specs.declared.entries.RunnerEntry.{RunnerEntry}
 use Rattle.step_runner.specs.declared.entries.Seen.{Seen}
 use Rattle.components.specs.Components.{Components, Child, child_gone, owner}
 use Rattle.components.specs.Lives.{lived_at}
 use Rattle.components.specs.Answers.{has_answered}
 use Rattle.components.specs.Events.{ended, gone_by, is_orphan_at, kill_event_at, killed, later, launched, started}
-use Rattle.components.specs.Acts.{Move, Quietly}
+use Rattle.components.specs.Acts.{Move, MovesInOrder}
 use Rattle.histories.specs.Phases.{duty_of}
 use Rattle.histories.specs.TraceEvents.{TraceEvent, ReadClock, Moved, Ran}
 use Rattle.histories.specs.States.{SessionState, is_wait, leaves, state_after, ran}
 use Rattle.histories.specs.Follows.{MayRun}
 use Rattle.histories.proofs.Joined.{left-append}
-use Rattle.session_boots.specs.Traces.{Acts}
+use Rattle.session_boots.specs.Traces.{ActTrace}
 use Rattle.session_boots.proofs.Acting.{acts_none, acts_on, grows_none}
 use Rattle.law_supervisor.specs.Sound.{IsOrderly}
 use Rattle.session_acts.specs.Laws.{Laws}
@@ -89,7 +89,7 @@ abbrev pub entry : Told → Seen → RunnerEntry
 entry old s = record { moment = old.moment; asked = old.asked; seen = s }
 
 pub ran_acts : (p : SessionState) (old new : Told) (living : List ℕ) (s : Seen) (k : ℕ) (t : Step) → IsWithin p old living →
-    MayRun (duty_of p.device) p s k t → Notes old new s → Acts p (Ran (entry old s) k t ∷ []) old.list new.list
+    MayRun (duty_of p.device) p s k t → HasNoted old new s → ActTrace p (Ran (entry old s) k t ∷ []) old.list new.list
 ran_acts p old new living s k t w may notes = record {
   proper = (
     (
@@ -105,7 +105,7 @@ ran_acts p old new living s k t w may notes = record {
 }
 
 pub ran_in_turn : (p : SessionState) (old new : Told) (living : List ℕ) (s : Seen) (k : ℕ) (t : Step) → IsWithin p old living →
-    MayRun (duty_of p.device) p s k t → Notes old new s → IsActEntry p s → ActsInTurn p (Ran (entry old s) k t ∷ []) old.list new.list
+    MayRun (duty_of p.device) p s k t → HasNoted old new s → IsActEntry p s → ActsInTurn p (Ran (entry old s) k t ∷ []) old.list new.list
 ran_in_turn p old new living s k t w may notes is = record { acts = ran_acts p old new living s k t w may notes; each = (is, tt) }
 
 -- the components behind it
@@ -119,14 +119,14 @@ pub on_ran : (p : SessionState) (e : RunnerEntry) (k : ℕ) (t : Step) → IsDri
 on_ran p e k t on = record { drives = on.drives; boot = on.boot; boot_end = on.boot_end; over = on.over; cut = on.cut }
 
 -- back in the turn
-pub within_on : (p : SessionState) (old new : Told) (s : Seen) (k : ℕ) (t : Step) (before living : List ℕ) → IsWithin p old before → Notes old new s →
+pub within_on : (p : SessionState) (old new : Told) (s : Seen) (k : ℕ) (t : Step) (before living : List ℕ) → IsWithin p old before → HasNoted old new s →
     is_wait s ≡ false → IsRunAfter p s k t living
     → IsWithin (leaves p (Ran (entry old s) k t)) new living
 within_on p old new s k t before living w notes wait a = record {
   on = on_ran p (entry old s) k t w.on;
   orderly = a.orderly;
   answered = a.answered;
-  moment = notes.told ∙ w.moment ∙ sym a.moment;
+  moment = notes.moment ∙ w.moment ∙ sym a.moment;
   asked = notes.asked;
   due = λ d. absurd (never (is_wait s) wait d);
   children = a.children;
@@ -134,7 +134,7 @@ within_on p old new s k t before living w notes wait a = record {
 
 -- ---- moves
 
--- a place with these components
+-- a state with these components
 pub record MovedTo (p : SessionState) (told : Told) (living : List ℕ) (list : Option (List RunnerEntry)) (v : Components) : Type 0 where
   pub h : List TraceEvent
   pub acts : ActsInTurn p h list list
@@ -144,12 +144,12 @@ pub record MovedTo (p : SessionState) (told : Told) (living : List ℕ) (list : 
 
 -- moves within a turn, one after another
 pub moves_on : Laws → (p : SessionState) (told : Told) (living : List ℕ) (list : Option (List RunnerEntry)) (v : Components) (ms : List Move) →
-    Quietly p.world ms v → IsWithin p told living → p.probed ≡ false → MovedTo p told living list v
+    MovesInOrder p.world ms v → IsWithin p told living → p.probed ≡ false → MovedTo p told living list v
 moves_on laws p told living list v [] q w probed = record { h = []; acts = turn_none p list list refl; within = w; probed = probed; world_is = sym q }
 moves_on laws p told living list v (m ∷ ms) q w probed =
     let first : List TraceEvent = Moved m.who m.what ∷ [] in
     let two = leaves p (Moved m.who m.what) in
-    let alone : Quietly p.world (m ∷ []) two.world = (q.0, q.1, refl) in
+    let alone : MovesInOrder p.world (m ∷ []) two.world = (q.0, q.1, refl) in
     let one : ActsInTurn p first list list = record {
       acts = record {
         proper = (((q.1, q.0, w.on.drives), (λ cut. absurd (never p.cut w.on.cut cut)), w.on.over), tt);
@@ -178,7 +178,7 @@ moves_on laws p told living list v (m ∷ ms) q w probed =
       world_is = ap (λ (x : SessionState). x.world) (left-append p rest.h first) ∙ rest.world_is;
     }
 
--- ---- a turn's front
+-- ---- a turn's start
 
 pub no_boot : (o : Option Child) (n : ℕ) → o ≡ None → IsSomeAnd o (λ (c : Child). c.number ≡ n) → ⊥
 no_boot o n is h = subst (λ (x : Option Child). IsSomeAnd x (λ (c : Child). c.number ≡ n)) is h
@@ -219,7 +219,7 @@ pass_acts p d world old living now list new c later_on same = record {
   each = (tt, tt);
 }
 
--- back at a front
+-- back at a start
 pub comes_of : (p : SessionState) (d : Device) (world : Components) (told : Told) (living : List ℕ) → IsInTurn p world told living → p.device ≡ d →
     IsAtTurnStart p d world told living
 comes_of p d world told living r device =

@@ -1,4 +1,4 @@
--- What was handed out, and the place to which the moves before it lead.
+-- What was handed out, and the state to which the moves before it lead.
 use Rattle.std.specs.Prelude.{ℕ, true, false, List, Option, Some, None}
 use Rattle.std.proofs.Common.{◌≡◌, sym, subst}
 use Rattle.nuc_base.specs.declared.kinds.Exit.{Exit}
@@ -7,7 +7,7 @@ use Rattle.step_runner.specs.Entries.{Told}
 use Rattle.step_runner.specs.declared.entries.RunnerEntry.{RunnerEntry}
 use Rattle.components.specs.Components.{Components}
 use Rattle.components.specs.Turns.{IsQuiet}
-use Rattle.components.specs.Acts.{HandsOut, NextAct, Quietly}
+use Rattle.components.specs.Acts.{HandsOut, NextAct, MovesInOrder}
 use Rattle.components.specs.declared.kinds.Act.{Act}
 use Rattle.components.specs.declared.kinds.Act.TheVariants.{Start, Failed, Broke}
 use Rattle.histories.specs.TraceEvents.{TraceEvent}
@@ -17,7 +17,7 @@ use Rattle.session_acts.specs.Runs.{HasFailed, IsStarting, IsWithin, IsInTurn}
 use Rattle.session_acts.specs.Traces.{ActsInTurn}
 use Rattle.session_acts.proofs.Entering.{moves_on}
 
--- the moves before an act, and the act from the place that they lead to
+-- the moves before an act, and the act from the state that they lead to
 pub record Handed (p : SessionState) (w : Components) (told : Told) (living : List ℕ) (list : Option (List RunnerEntry)) (a : Option Act) : Type 0 where
   pub h : List TraceEvent
   pub acts : ActsInTurn p h list list
@@ -28,7 +28,7 @@ pub record Handed (p : SessionState) (w : Components) (told : Told) (living : Li
 pub handed : Laws → (p : SessionState) (v w : Components) (told : Told) (living : List ℕ) (list : Option (List RunnerEntry)) (a : Option Act) →
     IsInTurn p v told living → NextAct v a w → Handed p w told living list a
 handed laws p v w told living list a r n =
-    let m = moves_on laws p told living list n.seen n.made (subst (λ (x : Components). Quietly x n.made n.seen) r.world_is n.quietly) r.within
+    let m = moves_on laws p told living list n.seen n.made (subst (λ (x : Components). MovesInOrder x n.made n.seen) r.world_is n.quietly) r.within
     r.probed in
     record {
       h = m.h;

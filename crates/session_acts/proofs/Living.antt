@@ -59,13 +59,13 @@ lives_without n xs m = (
 
 pub lives_cons : (n : ℕ) (xs : List ℕ) (m : ℕ) → Contains (n ∷ xs) m ↔ ((m ≡ n) ⊎ Contains xs m)
 lives_cons n xs m = (
-  (λ h. turned (uncons n m xs h)),
+  (λ h. swapped (uncons n m xs h)),
   (λ h. joined h),
 )
   where
-    turned : (n ≡ m) ⊎ Contains xs m → (m ≡ n) ⊎ Contains xs m
-    turned (inl is) = inl (sym is)
-    turned (inr h) = inr h
+    swapped : (n ≡ m) ⊎ Contains xs m → (m ≡ n) ⊎ Contains xs m
+    swapped (inl is) = inl (sym is)
+    swapped (inr h) = inr h
 
     joined : (m ≡ n) ⊎ Contains xs m → Contains (n ∷ xs) m
     joined (inl is) = here n m xs (sym is)

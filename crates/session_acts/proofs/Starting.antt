@@ -6,7 +6,7 @@ use Rattle.std.proofs.Common.{◌≡◌, ◌↔◌, ◌⊎◌, ◌∙◌, inl, i
 use Rattle.nuc_base.specs.declared.kinds.Step.{Step}
 use Rattle.recipe_reader.specs.declared.recipe.Skip.{Skip}
 use Rattle.recipe_reader.specs.declared.recipe.Skip.TheVariants as skips
-use Rattle.step_runner.specs.Entries.{Notes, Told, without}
+use Rattle.step_runner.specs.Entries.{HasNoted, Told, without}
 use Rattle.step_runner.specs.declared.command.Command.{Command}
 use Rattle.step_runner.specs.declared.entries.Seen.TheVariants as seen
 use Rattle.components.specs.Fitted.{prepared_of}
@@ -20,7 +20,7 @@ use Rattle.components.proofs.Handed.{refused-handed, skipped-handed, started-han
 use Rattle.histories.specs.Phases.{duty_of}
 use Rattle.histories.specs.TraceEvents.{TraceEvent, Ran}
 use Rattle.histories.specs.States.{SessionState, is_wait, leaves, state_after, ran, says_no}
-use Rattle.histories.specs.Follows.{HasStep, MayRun, MayTry, Probes, Starts}
+use Rattle.histories.specs.Follows.{HasStep, MayRun, MayTry, IsProbeOf, IsStartOf}
 use Rattle.session_boots.specs.Steps.{probe_seen}
 use Rattle.law_supervisor.specs.Keeps.{Owns}
 use Rattle.session_acts.specs.Laws.{Laws}
@@ -113,14 +113,14 @@ Asks k t x w = At k (λ q. HasStart t q × SkipIs t x q) w.parts
 pub asks : (k : ℕ) (t : Step) (x : Option Skip) (v w : Components) → v ≡ handed_at k w → At k (HasStart t) w.parts → At k (SkipIs t x) v.parts → Asks k t x w
 asks k t x v w is start told = at_both (slice_get w.parts k) (HasStart t) (SkipIs t x) start (told_before k v w (SkipIs t x) is (λ p h. h) told)
 
-may_probe : (p : SessionState) (k : ℕ) (t : Step) (x : Skip) → IsNext p.world k → p.probed ≡ false → Asks k t (Some x) p.world → MayTry p k t (Probes p x)
+may_probe : (p : SessionState) (k : ℕ) (t : Step) (x : Skip) → IsNext p.world k → p.probed ≡ false → Asks k t (Some x) p.world → MayTry p k t (IsProbeOf p x)
 may_probe p k t x next probed a = (
   next,
-  at_some (slice_get p.world.parts k) (λ q. HasStart t q × SkipIs t (Some x) q) (λ q. (is_begun t q ≡ true) × HasStep q t (Probes p x))
-      (try_at t (Some x) (Probes p x) (λ m is. (is, probed))) a,
+  at_some (slice_get p.world.parts k) (λ q. HasStart t q × SkipIs t (Some x) q) (λ q. (is_begun t q ≡ true) × HasStep q t (IsProbeOf p x))
+      (try_at t (Some x) (IsProbeOf p x) (λ m is. (is, probed))) a,
 )
 
-may_run_probe : (p : SessionState) (k : ℕ) (t : Step) (x : Skip) (b : Bool) → MayTry p k t (Probes p x) → MayRun (duty_of p.device) p (probe_seen x b) k t
+may_run_probe : (p : SessionState) (k : ℕ) (t : Step) (x : Skip) (b : Bool) → MayTry p k t (IsProbeOf p x) → MayRun (duty_of p.device) p (probe_seen x b) k t
 may_run_probe p k t (skips.Exists x) b may = may
 may_run_probe p k t (skips.OnPath x) b may = may
 
@@ -165,7 +165,7 @@ says (skips.OnPath x) false = refl
 
 -- it says that the step is to be skipped
 pub probe_yes : Laws → (p : SessionState) (k : ℕ) (t : Step) (x : Skip) (world : Components) (old new : Told) (living next : List ℕ) →
-    IsStarting p k t world old living → At k (SkipIs t (Some x)) world.parts → Notes old new (probe_seen x true) → next ≡ living
+    IsStarting p k t world old living → At k (SkipIs t (Some x)) world.parts → HasNoted old new (probe_seen x true) → next ≡ living
     → Skipped p k world old new next
 probe_yes laws p k t x world old new living next s told notes same =
     let seen = probe_seen x true in
@@ -197,7 +197,7 @@ no_after p told living k t (skips.OnPath x) w = record { moment = refl; orderly 
 
 -- it says no
 pub probe_no : (p : SessionState) (k : ℕ) (t : Step) (x : Skip) (world : Components) (old new : Told) (living next : List ℕ) →
-    IsStarting p k t world old living → At k (SkipIs t (Some x)) world.parts → Notes old new (probe_seen x false) → next ≡ living
+    IsStarting p k t world old living → At k (SkipIs t (Some x)) world.parts → HasNoted old new (probe_seen x false) → next ≡ living
     → Launches p k t world old new next
 probe_no p k t x world old new living next s told notes same =
     let seen = probe_seen x false in
@@ -253,14 +253,14 @@ of_start None c P h is = absurd h
 of_start (Some m) c P h is = (sym (some_same m.command c is), h)
 
 may_start : (p : SessionState) (k : ℕ) (t : Step) (c : Command) (world : Components) (told : Told) (living : List ℕ) → MayLaunch p k t world told living →
-    At k (CommandIs t c) world.parts → MayTry p k t (Starts p c)
+    At k (CommandIs t c) world.parts → MayTry p k t (IsStartOf p c)
 may_start p k t c world told living m is =
     let before = told_before k world p.world (CommandIs t c) m.world_is (λ q h. h) is in
     let all = at_both (slice_get p.world.parts k) (HasStart t) (λ q. HasStep q t (λ m. (m.skip ≡ None) ⊎ (p.probed ≡ true)) × CommandIs t c q) m.start
     (at_both (slice_get p.world.parts k) (λ q. HasStep q t (λ m. (m.skip ≡ None) ⊎ (p.probed ≡ true))) (CommandIs t c) m.asked before) in (
       m.next,
       at_some (slice_get p.world.parts k) (λ q. HasStart t q × (HasStep q t (λ m. (m.skip ≡ None) ⊎ (p.probed ≡ true)) × CommandIs t c q))
-          (λ q. (is_begun t q ≡ true) × HasStep q t (Starts p c))
+          (λ q. (is_begun t q ≡ true) × HasStep q t (IsStartOf p c))
           (λ q h. (h.0.begun, of_start (prepared_of q.fitted t) c (λ m. (m.skip ≡ None) ⊎ (p.probed ≡ true)) h.1.0 h.1.1)) all,
     )
 
@@ -295,7 +295,7 @@ there_is k t w h = at_some (slice_get w.parts k) (HasStart t) (λ p. ⊤) (λ p 
 
 pub start_runs : Laws → (p : SessionState) (k : ℕ) (t : Step) (n : ℕ) (c : Command) (world : Components) (old new : Told) (living next : List ℕ) →
     MayLaunch p k t world old living → At k (CommandIs t c) world.parts
-    → Notes old new (seen.Started n c) → next ≡ n ∷ living → (Contains living n → ⊥) → Launched p (started k t n world) old new next
+    → HasNoted old new (seen.Started n c) → next ≡ n ∷ living → (Contains living n → ⊥) → Launched p (started k t n world) old new next
 start_runs laws p k t n c world old new living next m is notes lives fresh =
     let w = p.world in
     let owner = is_new p old living n m.within fresh in
@@ -317,7 +317,7 @@ start_runs laws p k t n c world old new living next m is notes lives fresh =
 
 pub refuse_runs : Laws → (p : SessionState) (k : ℕ) (t : Step) (c : Command) (world : Components) (old new : Told) (living next : List ℕ) →
     MayLaunch p k t world old living → At k (CommandIs t c) world.parts
-    → Notes old new (seen.Refused c) → next ≡ living → Launched p (refused k t world) old new next
+    → HasNoted old new (seen.Refused c) → next ≡ living → Launched p (refused k t world) old new next
 refuse_runs laws p k t c world old new living next m is notes same =
     let w = p.world in
     record {
@@ -349,7 +349,7 @@ beside e = ((λ h. (h.0, e.0 h.1)), (λ h. (h.0, e.1 h.1)))
 
 pub kill_runs : Laws → (p : SessionState) (n k : ℕ) (t : Step) (world : Components) (old new : Told) (living next : List ℕ) → IsWithin p old living →
     IsNext p.world k → MayKill p.world n k t → world ≡ killed n p.world
-    → Notes old new (seen.Killed n) → next ≡ without n living → Launched p world old new next
+    → HasNoted old new (seen.Killed n) → next ≡ without n living → Launched p world old new next
 kill_runs laws p n k t world old new living next within may_next may is notes lives =
     let w = p.world in
     record {

@@ -3,7 +3,7 @@ use Rattle.std.specs.Prelude.{ℕ, List, Option, Some, None, Contains, IsSome}
 use Rattle.std.proofs.Common.{◌≡◌, ◌↔◌, ◌∙◌, inl, refl, sym, ap, subst, arith}
 use Rattle.nuc_base.specs.declared.kinds.Exit.{Exit}
 use Rattle.nuc_base.specs.declared.kinds.Step.{Step}
-use Rattle.step_runner.specs.Entries.{Notes, Told, without}
+use Rattle.step_runner.specs.Entries.{HasNoted, Told, without}
 use Rattle.step_runner.specs.declared.entries.Seen.TheVariants as seen
 use Rattle.components.specs.Components.{Components, owner}
 use Rattle.components.specs.Answers.{has_answered}
@@ -25,10 +25,10 @@ pub record Waited (p : SessionState) (world : Components) (old new : Told) (livi
   pub left : IsAtTurnStart (leaves p event) p.device world new living
 
 pub elapsed : (p : SessionState) (world : Components) (old new : Told) (living next : List ℕ) (limit : ℕ) → IsReadyToWait p limit world old living →
-    Notes old new (seen.Elapsed limit) → next ≡ living → Waited p world old new next
+    HasNoted old new (seen.Elapsed limit) → next ≡ living → Waited p world old new next
 elapsed p world old new living next limit s notes same =
     let w = s.runs.within in
-    let at : new.moment ≡ p.world.moment = notes.told ∙ w.moment in
+    let at : new.moment ≡ p.world.moment = notes.moment ∙ w.moment in
     record {
       event = WaitElapsed (entry old (seen.Elapsed limit));
       once = record {
@@ -74,7 +74,7 @@ pub owns_world : (p : SessionState) (world : Components) (told : Told) (living :
 owns_world p world told living n r lives = subst (λ (v : Components). IsSome (owner n v.parts)) (sym r.world_is) ((r.within.children n).0 lives)
 
 pub ends : Laws → (p : SessionState) (world : Components) (old new : Told) (living next : List ℕ) (n : ℕ) (x : Exit) (limit now : ℕ) →
-    IsReadyToWait p limit world old living → old.moment ≡ now → Notes old new (seen.Ended n x limit) → Contains living n → next ≡ without n living →
+    IsReadyToWait p limit world old living → old.moment ≡ now → HasNoted old new (seen.Ended n x limit) → Contains living n → next ≡ without n living →
     Waited p (ended n x (later now world)) old new next
 ends laws p world old new living next n x limit now s moment notes lives same =
     let w = s.runs.within in
@@ -82,7 +82,7 @@ ends laws p world old new living next n x limit now s moment notes lives same =
     let k = own.0.0 in
     let t = own.0.1 in
     let e = entry old (seen.Ended n x limit) in
-    let at : new.moment ≡ p.world.moment = notes.told ∙ w.moment in
+    let at : new.moment ≡ p.world.moment = notes.moment ∙ w.moment in
     let after : ended n x (later now world) ≡ ended n x p.world =
     ap (λ (v : Components). ended n x (later now v)) s.runs.world_is ∙ ap (λ (v : Components). ended n x v) (later_same now p.world (sym moment ∙ w.moment)) in
     let same_moment = moment_ended n x p.world in

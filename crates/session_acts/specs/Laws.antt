@@ -3,14 +3,14 @@ use Rattle.std.specs.Prelude.{◌≡◌, ◌≢◌, ◌↔◌, ◌⊎◌, ℕ, L
 use Rattle.nuc_base.specs.declared.kinds.Step.{Step}
 use Rattle.nuc_base.specs.declared.kinds.Exit.{Exit}
 use Rattle.components.specs.Components.{Components, At, owner}
-use Rattle.components.specs.Events.{started, refused, skipped, killed, ended, told_at, later}
-use Rattle.components.specs.Acts.{Move, Quietly}
+use Rattle.components.specs.Events.{started, refused, skipped, killed, ended, heard_at, later}
+use Rattle.components.specs.Acts.{Move, MovesInOrder}
 use Rattle.law_supervisor.specs.Keeps.{Owns}
 use Rattle.law_supervisor.specs.Sound.{IsOrderly}
 
 pub record Laws : Type 0 where
-  pub keeps_moved : (w v : Components) (ms : List Move) → Quietly w ms v → IsOrderly w → IsOrderly v
-  pub owner_moved : (n : ℕ) (w v : Components) (ms : List Move) → Quietly w ms v → owner n v.parts ≡ owner n w.parts
+  pub keeps_moved : (w v : Components) (ms : List Move) → MovesInOrder w ms v → IsOrderly w → IsOrderly v
+  pub owner_moved : (n : ℕ) (w v : Components) (ms : List Move) → MovesInOrder w ms v → owner n v.parts ≡ owner n w.parts
   pub keeps_started : (k : ℕ) (s : Step) (n : ℕ) (w : Components) → owner n w.parts ≡ None → IsOrderly w → IsOrderly (started k s n w)
   pub owner_started : (k : ℕ) (s : Step) (n m : ℕ) (w : Components) → At k (λ p. ⊤) w.parts → Owns (started k s n w) m ↔ ((m ≡ n) ⊎ Owns w m)
   pub keeps_refused : (k : ℕ) (s : Step) (w : Components) → IsOrderly w → IsOrderly (refused k s w)
@@ -21,6 +21,6 @@ pub record Laws : Type 0 where
   pub owner_killed : (n m : ℕ) (w : Components) → IsOrderly w → Owns (killed n w) m ↔ ((m ≢ n) × Owns w m)
   pub keeps_ended : (n : ℕ) (e : Exit) (w : Components) → IsOrderly w → IsOrderly (ended n e w)
   pub owner_ended : (n m : ℕ) (e : Exit) (w : Components) → IsOrderly w → Owns (ended n e w) m ↔ ((m ≢ n) × Owns w m)
-  pub keeps_told : (k : ℕ) (w : Components) → IsOrderly w → IsOrderly (told_at k w)
-  pub owner_told : (n k : ℕ) (w : Components) → owner n (told_at k w).parts ≡ owner n w.parts
+  pub keeps_told : (k : ℕ) (w : Components) → IsOrderly w → IsOrderly (heard_at k w)
+  pub owner_heard : (n k : ℕ) (w : Components) → owner n (heard_at k w).parts ≡ owner n w.parts
   pub keeps_later : (m : ℕ) (w : Components) → IsOrderly w → IsOrderly (later m w)

@@ -8,12 +8,12 @@ use Rattle.components.specs.Components.{Components, At, owner}
 use Rattle.components.specs.Turns.{IsNext, IsQuiet}
 use Rattle.components.specs.Acts.{HasStart, OwesAt}
 use Rattle.components.specs.Answers.{has_answered}
-use Rattle.components.specs.Events.{handed_at, told_at}
+use Rattle.components.specs.Events.{handed_at, heard_at}
 use Rattle.histories.specs.Phases.{duty_of}
 use Rattle.histories.specs.States.{SessionState}
 use Rattle.histories.specs.Follows.{HasStep}
 use Rattle.histories.specs.Waits.{may_drive}
-use Rattle.histories.specs.Courses.{Stands}
+use Rattle.histories.specs.Courses.{IsStateOf}
 use Rattle.law_supervisor.specs.Sound.{IsOrderly}
 use Rattle.session_acts.specs.declared.acts.Did.{Did}
 use Rattle.session_acts.specs.declared.acts.Did.TheVariants as did
@@ -26,9 +26,9 @@ pub record IsDriving (p : SessionState) : Type 0 where
   pub over : p.over ≡ false
   pub cut : p.cut ≡ false
 
--- At a turn's front: the supervisor may not know of the last moment yet.
+-- At a turn's start: the supervisor may not know of the last moment yet.
 pub record IsAtTurnStart (p : SessionState) (d : Device) (world : Components) (told : Told) (living : List ℕ) : Type 0 where
-  pub stands : Stands p d world told living
+  pub stands : IsStateOf p d world told living
   pub on : IsDriving p
   pub orderly : IsOrderly p.world
 
@@ -42,7 +42,7 @@ pub record IsWithin (p : SessionState) (told : Told) (living : List ℕ) : Type 
   pub due : p.due ≡ true → p.fresh ≡ true
   pub children : (n : ℕ) → Contains living n ↔ IsSome (owner n p.world.parts)
 
--- the supervisor's components are those of the place
+-- the supervisor's components are those of the state
 pub record IsInTurn (p : SessionState) (world : Components) (told : Told) (living : List ℕ) : Type 0 where
   pub within : IsWithin p told living
   pub probed : p.probed ≡ false
@@ -69,7 +69,7 @@ pub record HasFailed (p : SessionState) (k : ℕ) (s : Step) (e : Exit) (world :
   pub within : IsWithin p told living
   pub breaks : Bool
   pub owes : OwesAt p.world k s e breaks
-  pub world_is : world ≡ told_at k p.world
+  pub world_is : world ≡ heard_at k p.world
 
 -- what an act leaves
 abbrev pub DidLeave : Did → SessionState → Components → Told → List ℕ → Type 0

@@ -6,7 +6,7 @@ use Rattle.step_runner.specs.declared.entries.Seen.TheVariants as seen
 use Rattle.components.specs.Components.{owner}
 use Rattle.histories.specs.TraceEvents.{TraceEvent, Ran, Moved, ReadClock}
 use Rattle.histories.specs.States.{SessionState, state_after}
-use Rattle.session_boots.specs.Traces.{Acts}
+use Rattle.session_boots.specs.Traces.{ActTrace}
 
 -- nothing is waited for, and a child that is started is new
 abbrev pub IsActEntry : SessionState → Seen → Type 0
@@ -29,5 +29,5 @@ AreActEvents p (e ∷ h) = IsActEvent (state_after p h) e × AreActEvents p h
 
 -- A part of a turn: it keeps no record, and waits for nothing.
 pub record ActsInTurn (p : SessionState) (h : List TraceEvent) (old new : Option (List RunnerEntry)) : Type 0 where
-  pub acts : Acts p h old new
+  pub acts : ActTrace p h old new
   pub each : AreActEvents p h

@@ -9,7 +9,7 @@ use Rattle.histories.specs.Phases.{duty_of}
 use Rattle.histories.specs.TraceEvents.{TraceEvent, Ran, WaitElapsed}
 use Rattle.histories.specs.States.{SessionState, is_wait}
 use Rattle.histories.specs.Waits.{MayWait}
-use Rattle.session_boots.specs.Traces.{Acts}
+use Rattle.session_boots.specs.Traces.{ActTrace}
 use Rattle.session_acts.specs.Runs.{IsInTurn}
 
 -- within a turn, so long at most may be waited
@@ -25,7 +25,7 @@ IsWaitEvent e = ⊥
 
 -- A wait keeps no record.
 pub record WaitsOnce (p : SessionState) (e : TraceEvent) (old new : Option (List RunnerEntry)) : Type 0 where
-  pub acts : Acts p (e ∷ []) old new
+  pub acts : ActTrace p (e ∷ []) old new
   pub wait : IsWaitEvent e
 
 -- a child ended, or nothing did before the limit, or the end of the clock, was reached

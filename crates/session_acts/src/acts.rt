@@ -26,7 +26,7 @@ pub enum Did {
 /// Takes the next act.
 pub fn act<R: Runner, S: Supervise>(runner: &mut R, supervisor: &mut S, now: u64) -> Did
     requires now { (R.told runner.old ≡ now) × (now < 2 ^ 62) }
-    requires placed { (p : SessionState) × AsTold R.Runner runner.old (IsInTurn p (S.world supervisor.old)) }
+    requires from_state { (p : SessionState) × AsTold R.Runner runner.old (IsInTurn p (S.world supervisor.old)) }
     ensures now { R.told runner.new ≡ now }
     ensures trace { (p : SessionState) → AsTold R.Runner runner.old (IsInTurn p (S.world supervisor.old)) →
         (h : List TraceEvent) × ActsInTurn p h (R.list runner.old) (R.list runner.new)

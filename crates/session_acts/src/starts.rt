@@ -17,7 +17,7 @@ use step_runner::Runner;
 
 /// Asks for the moment and tells it.
 pub fn pass<R: Runner, S: Supervise>(runner: &mut R, supervisor: &mut S) -> u64
-    requires placed { (p : SessionState) × (d : Device) × AsTold R.Runner runner.old (IsAtTurnStart p d (S.world supervisor.old)) }
+    requires from_state { (p : SessionState) × (d : Device) × AsTold R.Runner runner.old (IsAtTurnStart p d (S.world supervisor.old)) }
     ensures now { (R.told runner.new ≡ result) × (result < 2 ^ 62) }
     ensures trace { (p : SessionState) → (d : Device) → AsTold R.Runner runner.old (IsAtTurnStart p d (S.world supervisor.old)) →
         (h : List TraceEvent) × ActsInTurn p h (R.list runner.old) (R.list runner.new)
@@ -33,14 +33,14 @@ pub fn pass<R: Runner, S: Supervise>(runner: &mut R, supervisor: &mut S) -> u64
 
 /// Whether the step is to be skipped that is to be started, which its probe says.
 fn is_skipped<R: Runner, S: Supervise>(runner: &mut R, supervisor: &S, who: u32, step: Step) -> bool
-    requires placed { (p : SessionState) × AsTold R.Runner runner.old (IsStarting p who step (S.world supervisor.now)) }
+    requires from_state { (p : SessionState) × AsTold R.Runner runner.old (IsStarting p who step (S.world supervisor.now)) }
     ensures skipped { result ≡ true → (p : SessionState) → AsTold R.Runner runner.old (IsStarting p who step (S.world supervisor.now)) →
         (h : List TraceEvent) × ActsInTurn p h (R.list runner.old) (R.list runner.new)
         × AsTold R.Runner runner.new (IsInTurn (state_after p h) (skipped who (S.world supervisor.now))) }
     ensures starts { result ≡ false → (p : SessionState) → AsTold R.Runner runner.old (IsStarting p who step (S.world supervisor.now)) →
         (h : List TraceEvent) × ActsInTurn p h (R.list runner.old) (R.list runner.new)
         × AsTold R.Runner runner.new (MayLaunch (state_after p h) who step (S.world supervisor.now)) }
-    ensures told { R.told runner.new ≡ R.told runner.old }
+    ensures moment { R.told runner.new ≡ R.told runner.old }
 {
     orderly_laws();
     match supervisor.skip(who, step) {
@@ -58,7 +58,7 @@ fn launch<R: Runner, S: Supervise>(
     now: u64,
 )
     requires now { (R.told runner.old ≡ now) × (now < 2 ^ 62) }
-    requires placed { (p : SessionState) × AsTold R.Runner runner.old (MayLaunch p who step (S.world supervisor.old)) }
+    requires from_state { (p : SessionState) × AsTold R.Runner runner.old (MayLaunch p who step (S.world supervisor.old)) }
     ensures now { R.told runner.new ≡ now }
     ensures trace { (p : SessionState) → AsTold R.Runner runner.old (MayLaunch p who step (S.world supervisor.old)) →
         (h : List TraceEvent) × ActsInTurn p h (R.list runner.old) (R.list runner.new)
@@ -81,7 +81,7 @@ pub(crate) fn start_step<R: Runner, S: Supervise>(
     now: u64,
 )
     requires now { (R.told runner.old ≡ now) × (now < 2 ^ 62) }
-    requires placed { (p : SessionState) × AsTold R.Runner runner.old (IsStarting p who step (S.world supervisor.old)) }
+    requires from_state { (p : SessionState) × AsTold R.Runner runner.old (IsStarting p who step (S.world supervisor.old)) }
     ensures now { R.told runner.new ≡ now }
     ensures trace { (p : SessionState) → AsTold R.Runner runner.old (IsStarting p who step (S.world supervisor.old)) →
         (h : List TraceEvent) × ActsInTurn p h (R.list runner.old) (R.list runner.new)

@@ -30,7 +30,7 @@ pub fn longest_wait<S: Supervise>(supervisor: &S, now: u64) -> u64
 pub fn wait<R: Runner, S: Supervise>(runner: &mut R, supervisor: &mut S, now: u64, limit: u64)
     requires now { (R.told runner.old ≡ now) × (now < 2 ^ 62) }
     requires near { limit ≤ 1000000000 }
-    requires placed { (p : SessionState) × AsTold R.Runner runner.old (IsReadyToWait p limit (S.world supervisor.old)) }
+    requires from_state { (p : SessionState) × AsTold R.Runner runner.old (IsReadyToWait p limit (S.world supervisor.old)) }
     ensures trace { (p : SessionState) → AsTold R.Runner runner.old (IsReadyToWait p limit (S.world supervisor.old)) →
         (e : TraceEvent) × WaitsOnce p e (R.list runner.old) (R.list runner.new)
         × AsTold R.Runner runner.new (IsAtTurnStart (leaves p e) p.device (S.world supervisor.new)) }

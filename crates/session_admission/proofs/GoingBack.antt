@@ -17,7 +17,7 @@ use Rattle.nuc_base.proofs.Lists.{in_here, in_there}
 use Rattle.recipe_reader.specs.Backs.{IsBack, is_back}
 use Rattle.recipe_reader.specs.Environment.{Variable}
 use Rattle.recipe_reader.specs.Lifecycles.{back_of_step, key_value}
-use Rattle.recipe_reader.specs.OneRecipe.{Reads}
+use Rattle.recipe_reader.specs.OneRecipe.{IsRecipeFor}
 use Rattle.recipe_reader.specs.Recipes.{inner, manifest_of}
 use Rattle.recipe_reader.specs.Steps.{IsStep}
 use Rattle.recipe_reader.specs.declared.fault.Key.TheVariants as key
@@ -38,7 +38,7 @@ has_step outer None def is back = absurd (false≢true back)
 has_step outer (Some v) None is back = absurd is
 has_step outer (Some v) (Some def) is back = refl
 
-has_bootstrap : (platform : Platform) (bytes : List ℕ) (r : Recipe) → Reads bytes platform r → r.boot_back ≡ true → IsSome r.bootstrap
+has_bootstrap : (platform : Platform) (bytes : List ℕ) (r : Recipe) → IsRecipeFor bytes platform r → r.boot_back ≡ true → IsSome r.bootstrap
 has_bootstrap platform bytes r reads back =
     let is = reads.3 in
     has_step is.steps.outer (key_value key.Bootstrap (inner key.Lifecycle (manifest_of platform reads.0))) r.bootstrap (is.steps.steps Bootstrap)

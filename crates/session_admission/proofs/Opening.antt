@@ -2,14 +2,14 @@
 use Rattle.std.specs.Prelude.{ℕ, Bool, List, [], ◌∷◌, Option, Err, IfOk}
 use Rattle.std.proofs.Common.{◌≡◌, ◌∙◌, refl, sym, ap, subst}
 use Rattle.std.proofs.lemmas.List.{append-nil}
-use Rattle.disk_model.specs.Disk.{Image, Leaves, DiskLaws}
+use Rattle.disk_model.specs.Disk.{Image, HasLeft, DiskLaws}
 use Rattle.disk_model.specs.Moments.{tells_of}
 use Rattle.gate_log.specs.Journal.{JournalLaws}
 use Rattle.records.specs.Stored.{Plan, Accepted}
 use Rattle.device.specs.Devices.{Device}
 use Rattle.device.specs.Lawful.{Allowed, applied}
-use Rattle.device.specs.Standing.{Means, Room}
-use Rattle.deploy_state.specs.Accepting.{Accepts, HandsBack, HasStopped, IsHandedBack, booting_log}
+use Rattle.device.specs.Standing.{IsMeant, HasSpace}
+use Rattle.deploy_state.specs.Accepting.{AcceptResult, HandsBack, HasStopped, IsHandedBack, booting_log}
 use Rattle.deploy_state.specs.Owned.{LeavesEither}
 use Rattle.deploy_state.specs.States.{OwnsBooting, OwnsIdle, booting_device, idle_device}
 use Rattle.deploy_state.specs.declared.fault.AcceptRefusal.{AcceptRefusal}
@@ -24,22 +24,22 @@ use Rattle.histories.specs.TraceEvents.{TraceEvent, Recorded, records_of}
 use Rattle.histories.specs.States.{SessionState, leaves}
 use Rattle.histories.specs.Follows.{MayFollow}
 use Rattle.session_boots.specs.Lines.{accepted_line, lines_of}
-use Rattle.session_boots.specs.Ends.{Left, Lines}
+use Rattle.session_boots.specs.Ends.{ResultLeft, HasLines}
 use Rattle.session_boots.specs.Stands.{IsOpened}
 use Rattle.session_boots.specs.Traces.{IsTrace}
 use Rattle.session_boots.specs.declared.ends.SessionFault.TheVariants as over
 use Rattle.session_boots.proofs.Entries.{never}
 use Rattle.session_boots.proofs.Joins.{kept_one}
 use Rattle.session_boots.proofs.Records.{doubt_at}
-use Rattle.session_boots.proofs.Told.{last_untold}
-use Rattle.session_admission.specs.Accepts.{Answer, HasTaken, OwnsTaken, IsAcceptedAt, IsFullAt, IsFullOrShort, IsOpen, IsTakenOf, Opened, answer_of}
+use Rattle.session_boots.proofs.Told.{last_unprinted}
+use Rattle.session_admission.specs.Accepts.{AcceptAnswer, HasTaken, OwnsTaken, IsAcceptedAt, IsFullAt, IsFullOrShort, IsOpen, IsTakenOf, TakenLeft, answer_of}
 
 -- ---- it may come there, and what it leaves
 
 accept_follows : (p : SessionState) (d : Device) (world : Components) (told : Told) (living : List ℕ) (plan : Plan) → IsOpen p d world told living →
     MayFollow p (Recorded (Accepted plan))
 accept_follows p d world told living plan o = (
-  (record { told = o.quiet.told; alone = o.boot; no_end = o.boot_end; on = o.going }, o.quiet, o.takes),
+  (record { owes_none = o.quiet.owes_none; alone = o.boot; no_end = o.boot_end; on = o.going }, o.quiet, o.takes),
   (λ cut. absurd (never p.cut o.cut cut)),
   o.over,
 )
@@ -77,7 +77,7 @@ module _ (entries : Image → List (List ℕ) → Type 0) (files : List ℕ → 
     ℕ → Image → Type 0} {is_modelled : Bool} {seen : D → Image}
     (laws : DiskLaws is_modelled seen may_leave moment left_since) where
   abbrev Notes : D → D → Device → Plan → Type 0
-  Notes old new d plan = Leaves moment left_since old new (LeavesEither may_leave files entries old d (applied d (Accepted plan)))
+  Notes old new d plan = HasLeft moment left_since old new (LeavesEither may_leave files entries old d (applied d (Accepted plan)))
 
   pub accept_went : (old new : D) (list : Option (List RunnerEntry)) (p : SessionState) (d : Device) (world : Components) (told : Told) (living : List ℕ)
       (plan : Plan) → IsOpen p d world told living
@@ -92,29 +92,29 @@ module _ (entries : Image → List (List ℕ) → Type 0) (files : List ℕ → 
       (told : Told) (living : List ℕ) (plan : Plan)
       → HasTaken (answer_of refusal) → IsOpen p d world told living → Allowed d (Accepted plan) → Notes old new d plan
       → (h : List TraceEvent) × IsTrace entries files may_leave moment left_since old new told.list told.list p h
-      × Lines held held p.device (records_of h) (answer_of refusal)
-      × Left entries may_leave new p h (λ x q. Opened x q world told living) (answer_of refusal)
+      × HasLines held held p.device (records_of h) (answer_of refusal)
+      × ResultLeft entries may_leave new p h (λ x q. TakenLeft x q world told living) (answer_of refusal)
       × (records_of h ≡ Accepted plan ∷ [])
   stopped_went (refused.Full s at) old new held p d world told living plan taken o allowed notes = absurd taken
   stopped_went (refused.NoMemory s) old new held p d world told living plan taken o allowed notes = absurd taken
   stopped_went (refused.Stopped s) old new held p d world told living plan taken o allowed notes = (
     Recorded (Accepted plan) ∷ [],
     accept_went old new told.list p d world told living plan o allowed notes,
-    last_untold held p.device (Accepted plan),
+    last_unprinted held p.device (Accepted plan),
     doubt_at entries files laws old new p d (Accepted plan) o.stands.device_is allowed notes,
     refl,
   )
 
-  pub stopped_answer : {J : Type 0} (refusal : AcceptRefusal J) (r : Answer J) → r ≡ answer_of refusal →
+  pub stopped_answer : {J : Type 0} (refusal : AcceptRefusal J) (r : AcceptAnswer J) → r ≡ answer_of refusal →
       (old new : D) (held : Option (List ℕ)) (p : SessionState) (d : Device) (world : Components) (told : Told) (living : List ℕ) (plan : Plan)
       → HasTaken r → IsOpen p d world told living → Allowed d (Accepted plan) → Notes old new d plan
       → (h : List TraceEvent) × IsTrace entries files may_leave moment left_since old new told.list told.list p h
-      × Lines held held p.device (records_of h) r
-      × Left entries may_leave new p h (λ x q. Opened x q world told living) r
+      × HasLines held held p.device (records_of h) r
+      × ResultLeft entries may_leave new p h (λ x q. TakenLeft x q world told living) r
       × (records_of h ≡ Accepted plan ∷ [])
   stopped_answer {J = J} refusal r is old new held p d world told living plan taken o allowed notes =
-      subst (λ (x : Answer J). (h : List TraceEvent) × IsTrace entries files may_leave moment left_since old new told.list told.list p h
-      × Lines held held p.device (records_of h) x × Left entries may_leave new p h (λ y q. Opened y q world told living) x ×
+      subst (λ (x : AcceptAnswer J). (h : List TraceEvent) × IsTrace entries files may_leave moment left_since old new told.list told.list p h
+      × HasLines held held p.device (records_of h) x × ResultLeft entries may_leave new p h (λ y q. TakenLeft y q world told living) x ×
       (records_of h ≡ Accepted plan ∷ [])) (sym is)
       (stopped_went refusal old new held p d world told living plan (subst HasTaken is taken) o allowed notes)
 
@@ -136,8 +136,8 @@ sited_at {entries = entries} disk_laws laws s disk d plan place held is ends ima
       stands = record {
         payloads = hand.payloads;
         live = laws.holds (booting_log s) image hand.payloads stands;
-        means = subst (λ (x : Device). Means hand.payloads x) is means.0;
-        room = subst (λ (x : Device). Room hand.payloads x) is means.1;
+        means = subst (λ (x : Device). IsMeant hand.payloads x) is means.0;
+        room = subst (λ (x : Device). HasSpace hand.payloads x) is means.1;
       };
       ends = sym (laws.ends (booting_log s) image hand.payloads stands) ∙ ends;
     }
@@ -145,7 +145,7 @@ sited_at {entries = entries} disk_laws laws s disk d plan place held is ends ima
 -- ---- the refusals one by one
 
 module _ {J : Type 0} where
-  abbrev Refused : AcceptRefusal J → Accepts J
+  abbrev Refused : AcceptRefusal J → AcceptResult J
   Refused refusal = Err refusal
 
   pub refusal_full : (refusal : AcceptRefusal J) (at : ℕ) → IsFullAt (answer_of refusal) at → accepting.IsFullAt (Refused refusal) at

@@ -15,14 +15,14 @@ use Rattle.std.proofs.lemmas.Slice.Eq.{bytes_eq-Decides}
 use Rattle.nuc_base.specs.declared.kinds.Step.TheVariants as step
 use Rattle.nuc_base.specs.declared.platform.Platform.{Platform}
 use Rattle.nuc_base.proofs.Lists.{in_nil, in_cons, in_here, in_there}
-use Rattle.recipe_reader.specs.OneRecipe.{IsOneRecipe, Reads}
+use Rattle.recipe_reader.specs.OneRecipe.{IsOneRecipe, IsRecipeFor}
 use Rattle.recipe_reader.specs.Steps.{step_of}
 use Rattle.recipe_reader.specs.declared.recipe.StepDef.{StepDef}
 use Rattle.interpolation.specs.declared.scope.Scope.{Scope}
 use Rattle.records.specs.Stored.{Item}
 use Rattle.records.specs.declared.record.Origin.{Origin}
 use Rattle.device.specs.Lawful.{place, place_from}
-use Rattle.device.specs.Plans.{AreItems, HasRecipe, IsBoot, Rise, item_name}
+use Rattle.device.specs.Plans.{AreItems, HasRecipe, IsBoot, AreRising, item_name}
 use Rattle.device.specs.Scopes.{HasScope}
 use Rattle.components.specs.Made.{IsPrepared, IsPreparedFrom, IsStepAt}
 use Rattle.components.specs.declared.kinds.Prepared.{Prepared}
@@ -91,7 +91,7 @@ below_all n (x ∷ items) less i has = elim (in_cons x items i has) [
 ]
 
 -- where names rise, two items of one name are one
-same_item : (items : List Item) → Rise (map item_name items) → (a b : Item) → Contains items a → Contains items b → a.name ≡ b.name → a ≡ b
+same_item : (items : List Item) → AreRising (map item_name items) → (a b : Item) → Contains items a → Contains items b → a.name ≡ b.name → a ≡ b
 unfolding IsStrictlySortedBy
 same_item [] rise a b i j same = absurd (in_nil a i)
 same_item (x ∷ items) rise a b i j same = elim (in_cons x items a i) [
@@ -131,7 +131,7 @@ is_made one o items n at are boot is made =
     let scope = made.is_scope in
     let same : p.item ≡ boot.item = same_item items are.rise p.item boot.item p.is_one boot.is_one (p.named ∙ sym boot.named) in
     let here : scope.item ≡ boot.item = some_item scope.item p.item (sym scope.there ∙ p.there) ∙ same in
-    let alike = one boot.item.recipe o.platform scope.recipe boot.recipe (subst (λ (i : Item). Reads i.recipe o.platform scope.recipe) here scope.reads)
+    let alike = one boot.item.recipe o.platform scope.recipe boot.recipe (subst (λ (i : Item). IsRecipeFor i.recipe o.platform scope.recipe) here scope.reads)
     boot.reads in
     none_is boot.recipe.bootstrap (sym (alike.steps step.Bootstrap) ∙ none_made made.scope (step_of scope.recipe step.Bootstrap) made.prepared) boot.step
 

@@ -6,7 +6,7 @@ use Rattle.records.specs.Stored.{Item, Plan, Record, Genesis, Accepted, BootBegu
 use Rattle.records.specs.declared.record.Origin.{Origin}
 use Rattle.device.specs.Devices.{Device, Pending}
 use Rattle.device.specs.Lawful.{Allowed, Lawful, MayAccept, activated, applied, begun, boot_ended, close_pending, count_failure, goes_back, on_pending}
-use Rattle.device.specs.Lawful.{rolled, turned_back}
+use Rattle.device.specs.Lawful.{rolled, sent_back}
 use Rattle.device.specs.Sound.{IsBacking, IsInStage, IsSound, IsUnderWay}
 use Rattle.device.specs.declared.staged.Stage.{Stage}
 use Rattle.device.specs.declared.staged.Stage.TheVariants as stages
@@ -46,10 +46,10 @@ with_plan Q (Some q) h = h
 
 -- ---- what is chosen of the first elements has its places among what is chosen of all
 
-front : {A : Type 0} (p : A → Bool) (xs : List A) (n k : ℕ) (x : A) → slice_get (filter p (take n xs)) k ≡ Some x → slice_get (filter p xs) k ≡ Some x
-front p xs zero k x h = absurd (cc)
-front p [] (suc n) k x h = absurd (cc)
-front p (y ∷ xs) (suc n) k x h = by (p y) k (λ j more. front p xs n j x more) h
+prefix : {A : Type 0} (p : A → Bool) (xs : List A) (n k : ℕ) (x : A) → slice_get (filter p (take n xs)) k ≡ Some x → slice_get (filter p xs) k ≡ Some x
+prefix p xs zero k x h = absurd (cc)
+prefix p [] (suc n) k x h = absurd (cc)
+prefix p (y ∷ xs) (suc n) k x h = by (p y) k (λ j more. prefix p xs n j x more) h
   where
     by : (b : Bool) (k : ℕ) → ((j : ℕ) → slice_get (filter p (take n xs)) j ≡ Some x → slice_get (filter p xs) j ≡ Some x)
         → slice_get (if b then y ∷ filter p (take n xs) else filter p (take n xs)) k ≡ Some x → slice_get (if b then y ∷ filter p xs else filter p xs) k
@@ -111,7 +111,7 @@ module _ (boots backs : List Prepared) (items earlier : List Fitted) where
   step d Activating q is allowed ready = ready_kept activated d (λ p. refl) ready
   step d (StepFailed n s e) q is allowed ready = ready_kept (count_failure d.set n) d (counted_plan d.set n) ready
   step d (Failing n) q is allowed ready = ready_kept rolled d (λ p. refl) ready
-  step d (FailingBack n) q is allowed ready = ready_kept (turned_back d.origin d.set) d (λ p. refl) ready
+  step d (FailingBack n) q is allowed ready = ready_kept (sent_back d.origin d.set) d (λ p. refl) ready
   step d (Closed o) q is allowed ready = subst (λ (x : Option Pending). AreReadiedFor (close_pending o d x) boots backs items earlier) (sym is) tt
   step d _ q is allowed ready = absurd allowed
 
@@ -138,7 +138,7 @@ module _ (boots backs : List Prepared) (items earlier : List Fitted) where
   backs_in None set q is h = absurd h
   backs_in (Some o) set q is h =
       subst (λ (names : List (List ℕ)). AreBootsOf o set names backs) (sym is.backs_are)
-      (λ k name there. h.backs k name (front (goes_back o.platform set) q.plan.boots q.reach k name there))
+      (λ k name there. h.backs k name (prefix (goes_back o.platform set) q.plan.boots q.reach k name there))
 
   -- the bootstraps that run again
   pub backs_made : (d : Device) → IsSound d → IsIn stages.Backing d → AreReadiedFor d boots backs items earlier →

@@ -14,7 +14,7 @@ use Rattle.components.specs.Components.{Components}
 use Rattle.components.specs.Turns.{IsQuiet}
 use Rattle.histories.specs.Phases.{is_shutting_down}
 use Rattle.histories.specs.States.{SessionState}
-use Rattle.histories.specs.Courses.{Stands}
+use Rattle.histories.specs.Courses.{IsStateOf}
 use Rattle.histories.specs.Follows.{MayTakeBy}
 use Rattle.session_boots.specs.Stands.{IsOpened}
 use Rattle.session_boots.specs.declared.ends.SessionFault.{SessionFault}
@@ -26,7 +26,7 @@ use Rattle.session_admission.specs.declared.accepting.Taken.TheVariants as taken
 
 -- Nothing is open, no component may act, and the call may take a document.
 pub record IsOpen (p : SessionState) (d : Device) (world : Components) (told : Told) (living : List ℕ) : Type 0 where
-  pub stands : Stands p d world told living
+  pub stands : IsStateOf p d world told living
   pub quiet : IsQuiet p.world
   pub going : is_shutting_down p.generation ≡ false
   pub boot : p.boot ≡ None
@@ -37,26 +37,26 @@ pub record IsOpen (p : SessionState) (d : Device) (world : Components) (told : T
 
 -- ---- answers
 
-abbrev pub Answer : Type 0 → Type 0
-Answer J = Result (Taken J) SessionFault
+abbrev pub AcceptAnswer : Type 0 → Type 0
+AcceptAnswer J = Result (Taken J) SessionFault
 
 -- what a refusal is answered with
-abbrev pub answer_of : {J : Type 0} → AcceptRefusal J → Answer J
+abbrev pub answer_of : {J : Type 0} → AcceptRefusal J → AcceptAnswer J
 answer_of (refused.Full s at) = Ok (taken.Full s at)
 answer_of (refused.NoMemory s) = Ok (taken.NoMemory s)
 answer_of (refused.Stopped s) = Err over.Disk
 
 -- the plan was not given back
-abbrev pub HasTaken : {J : Type 0} → Answer J → Type 0
+abbrev pub HasTaken : {J : Type 0} → AcceptAnswer J → Type 0
 HasTaken (Ok (taken.Accepted s)) = ⊤
 HasTaken (Ok (taken.Full s at)) = ⊥
 HasTaken (Ok (taken.NoMemory s)) = ⊥
 HasTaken (Err e) = ⊤
 
-abbrev pub Opened : {J : Type 0} → Taken J → SessionState → Components → Told → List ℕ → Type 0
-Opened (taken.Accepted s) q world told living = IsOpened q (booting_device s) world told living
-Opened (taken.Full s at) q world told living = ⊥
-Opened (taken.NoMemory s) q world told living = ⊥
+abbrev pub TakenLeft : {J : Type 0} → Taken J → SessionState → Components → Told → List ℕ → Type 0
+TakenLeft (taken.Accepted s) q world told living = IsOpened q (booting_device s) world told living
+TakenLeft (taken.Full s at) q world told living = ⊥
+TakenLeft (taken.NoMemory s) q world told living = ⊥
 
 -- with the plan accepted the device has it pending, and else it is as it was
 abbrev pub IsTakenOf : {J : Type 0} → Device → Plan → Taken J → Type 0
@@ -71,14 +71,14 @@ module _ {J D : Type 0} (is_modelled : Bool) (may_leave : D → Image → Type 0
   OwnsTaken (taken.NoMemory s) disk = OwnsIdle is_modelled may_leave stands end s disk
 
 -- it does not fit from this place on
-abbrev pub IsFullAt : {J : Type 0} → Answer J → ℕ → Type 0
+abbrev pub IsFullAt : {J : Type 0} → AcceptAnswer J → ℕ → Type 0
 IsFullAt (Ok (taken.Accepted s)) at = ⊥
 IsFullAt (Ok (taken.Full s place)) at = place ≡ at
 IsFullAt (Ok (taken.NoMemory s)) at = ⊥
 IsFullAt (Err e) at = ⊥
 
 -- so it is, or there is no memory
-abbrev pub IsFullOrShort : {J : Type 0} → Answer J → ℕ → Type 0
+abbrev pub IsFullOrShort : {J : Type 0} → AcceptAnswer J → ℕ → Type 0
 IsFullOrShort (Ok (taken.Accepted s)) at = ⊥
 IsFullOrShort (Ok (taken.Full s place)) at = place ≡ at
 IsFullOrShort (Ok (taken.NoMemory s)) at = ⊤

@@ -1,7 +1,7 @@
 //! Accepting a plan.
 ghost use Rattle.std.specs.Prelude.{◌≡◌, ◌≤◌, ◌+◌, ℕ, List, [], ◌∷◌, IfOk, IsErrOf};
 ghost use Rattle.nuc_base.specs.Faults.{Rose};
-ghost use Rattle.disk_model.specs.Disk.{Image, Leaves};
+ghost use Rattle.disk_model.specs.Disk.{Image, HasLeft};
 ghost use Rattle.records.specs.Stored as stored;
 ghost use Rattle.records.specs.Stored.{plan_view};
 ghost use Rattle.device.specs.Lawful.{Allowed, applied};
@@ -14,9 +14,9 @@ ghost use Rattle.step_runner.specs.Entries.{Told};
 ghost use Rattle.components.specs.Components.{Components};
 ghost use Rattle.histories.specs.TraceEvents.{TraceEvent, records_of};
 ghost use Rattle.histories.specs.States.{SessionState};
-ghost use Rattle.session_boots.specs.Ends.{Lines};
-ghost use Rattle.session_admission.specs.Accepts.{HasTaken, OwnsTaken, IsAcceptedAt, IsFullAt, IsFullOrShort, IsOpen, IsTakenOf, Opened, answer_of};
-ghost use Rattle.deploy_state.specs.Objects.{Holds, KeepsOthers};
+ghost use Rattle.session_boots.specs.Ends.{HasLines};
+ghost use Rattle.session_admission.specs.Accepts.{HasTaken, OwnsTaken, IsAcceptedAt, IsFullAt, IsFullOrShort, IsOpen, IsTakenOf, TakenLeft, answer_of};
+ghost use Rattle.deploy_state.specs.Objects.{OwnsOver, KeepsOthers};
 ghost use Rattle.session_boots.specs.Stages.{IsTraceOver, LeftOver};
 
 use deploy_state::{AcceptRefusal, Booting, Idle};
@@ -59,24 +59,24 @@ pub fn accept_plan<D: Disk, J: Journal + Drop, K: Sink>(
     disk: &mut D,
     sink: &mut K,
 ) -> Result<Taken<J>, SessionFault>
-    requires held { Holds D.Disk J.Journal OwnsIdle idle disk.old }
+    requires held { OwnsOver D.Disk J.Journal OwnsIdle idle disk.old }
     requires lawful { Allowed (idle_device idle) (stored.Accepted (plan_view plan)) }
     requires regular { IsRegularRecord (stored.Accepted (plan_view plan)) }
     // A plan that is taken is the one record of a history.
     ensures trace { HasTaken result → (p : SessionState) → (world : Components) → (told : Told) → (living : List ℕ) →
         IsOpen p (idle_device idle) world told living →
         (h : List TraceEvent) × IsTraceOver D.Disk J.Journal disk.old disk.new told.list told.list p h
-        × Lines (K.held sink.old) (K.held sink.new) p.device (records_of h) result
-        × LeftOver D.Disk J.Journal disk.new p h (λ x q. Opened x q world told living) result
+        × HasLines (K.held sink.old) (K.held sink.new) p.device (records_of h) result
+        × LeftOver D.Disk J.Journal disk.new p h (λ x q. TakenLeft x q world told living) result
         × (records_of h ≡ stored.Accepted (plan_view plan) ∷ []) }
     // Whatever becomes of it, a crash at any moment leaves the device with it or without.
-    ensures moments { Leaves D.moment D.left_since disk.old disk.new
+    ensures moments { HasLeft D.moment D.left_since disk.old disk.new
         (LeavesEither D.may_leave J.files J.entries disk.old (idle_device idle) (applied (idle_device idle) (stored.Accepted (plan_view plan)))) }
     // Where the plan is given back it leaves it without.
-    ensures unmade { ¬ (HasTaken result) → Leaves D.moment D.left_since disk.old disk.new
+    ensures unmade { ¬ (HasTaken result) → HasLeft D.moment D.left_since disk.old disk.new
         (LeavesSame D.may_leave J.files J.entries disk.old (idle_device idle)) }
     ensures taken { IfOk result (IsTakenOf (idle_device idle) (plan_view plan)) }
-    ensures held { IfOk result (λ x. Holds D.Disk J.Journal OwnsTaken x disk.new) }
+    ensures held { IfOk result (λ x. OwnsOver D.Disk J.Journal OwnsTaken x disk.new) }
     ensures silent { ¬ (HasTaken result) → sink.new ≡ sink.old }
     // Full, with nothing written, exactly where the plan does not fit with what may follow it, want of memory aside.
     ensures full { (at : ℕ) → IsFullAt result at → (at ≡ start_of J.end J.number J.turns (idle_log idle) (idle_device idle) (plan_bytes (plan_view plan)))

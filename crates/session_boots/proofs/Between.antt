@@ -1,4 +1,4 @@
--- From the front of a bootstrap to its run, and from its end to its record.
+-- From the start of a bootstrap to its run, and from its end to its record.
 use Rattle.std.specs.Prelude.{ℕ, true, List, [], ◌∷◌, Option, Some, None, Contains, zero}
 use Rattle.std.specs.Option.{IsSome, IsSomeAnd}
 use Rattle.std.proofs.Common.{◌≡◌, ◌≤◌, ◌∙◌, inl, inr, refl, sym, ap, subst, arith}
@@ -11,11 +11,11 @@ use Rattle.components.specs.Events.{later}
 use Rattle.components.specs.declared.kinds.Prepared.{Prepared}
 use Rattle.histories.specs.Phases.{Duty, duty_of, has_boots}
 use Rattle.histories.specs.States.{SessionState}
-use Rattle.histories.specs.Follows.{Lives, MayBoot}
-use Rattle.session_boots.specs.Made.{IsTurn}
+use Rattle.histories.specs.Follows.{IsLiving, MayBoot}
+use Rattle.session_boots.specs.Made.{IsNextBoot}
 use Rattle.session_boots.specs.Stands.{IsAtBootStage}
 use Rattle.session_boots.specs.Steps.{HasEnd, IsEnded, MayStep}
-use Rattle.session_boots.proofs.Duties.{duty_origin, duty_phase, in_turn}
+use Rattle.session_boots.proofs.Duties.{duty_origin, duty_phase, next_in}
 use Rattle.session_boots.proofs.Entries.{still_later}
 use Rattle.session_boots.proofs.Still.{no_owner}
 
@@ -32,7 +32,7 @@ no_part : (o : Option (ℕ × Step)) → o ≡ None → IsSome o → ⊥
 no_part None is h = absurd cc
 no_part (Some x) is h = absurd cc
 
-none_lives : (p : SessionState) (n : ℕ) → is_stopped p.world ≡ true → p.boot ≡ None → Lives n p → ⊥
+none_lives : (p : SessionState) (n : ℕ) → is_stopped p.world ≡ true → p.boot ≡ None → IsLiving n p → ⊥
 none_lives p n stopped boot (inl h) = no_part (owner n p.world.parts) (no_owner n p.world stopped) h
 none_lives p n stopped boot (inr h) = no_boot p.boot n boot h
 
@@ -45,23 +45,23 @@ contains_none n h = omega (arith, h.1)
 -- ---- the run
 
 pub may_step : (p : SessionState) (d : Device) (world : Components) (told : Told) (living : List ℕ) (m : Prepared) → IsAtBootStage p d world told living →
-    IsTurn d m → (duty_of d).begun ≡ true → MayStep p m told
+    IsNextBoot d m → (duty_of d).begun ≡ true → MayStep p m told
 may_step p d world told living m f t begun =
     let same = f.between.stands.device_is in
-    let turn = in_turn d t.name t.turn in
+    let is_next = next_in d t.name t.next in
     let back : duty_of d ≡ duty_of p.device = ap (λ (x : Device). duty_of x) (sym same) in
     let may : MayBoot (duty_of d) p m = record {
-      phase = ap (λ (x : Duty). has_boots x.phase) turn.duty ∙ duty_phase d turn.q turn.has;
+      phase = ap (λ (x : Duty). has_boots x.phase) is_next.duty ∙ duty_phase d is_next.q is_next.has;
       begun = begun;
       origin = t.origin;
-      of_device = ap (λ (x : Duty). x.origin) turn.duty ∙ duty_origin d turn.q turn.has ∙ t.of_device;
+      of_device = ap (λ (x : Duty). x.origin) is_next.duty ∙ duty_origin d is_next.q is_next.has ∙ t.of_device;
       at = t.of.at;
       item = t.of.item;
       there = t.of.there;
-      turn = t.turn ∙ ap (λ (x : List ℕ). Some x) (sym t.of.named);
+      next = t.next ∙ ap (λ (x : List ℕ). Some x) (sym t.of.named);
       prepared = t.of.prepared;
       stopped = f.between.still.stopped;
-      told = f.between.still.quiet.told;
+      owes_none = f.between.still.quiet.owes_none;
       alone = f.between.boot;
       no_end = f.between.boot_end;
     } in

@@ -17,12 +17,12 @@ use Rattle.device.specs.declared.staged.Stage.TheVariants as stages
 use Rattle.deploy_state.specs.Fields.{CanBegin, IsBegun, next_name}
 use Rattle.deploy_state.specs.Owned.{MayMark}
 use Rattle.components.specs.declared.kinds.Prepared.{Prepared}
-use Rattle.histories.specs.Phases.{Duty, has_boots, duty_in, duty_of, turn_of}
+use Rattle.histories.specs.Phases.{Duty, has_boots, duty_in, duty_of, next_bootstrap_of}
 use Rattle.histories.specs.States.{asks_restart}
 use Rattle.session_boots.specs.Booted.{restart_of}
 use Rattle.session_boots.specs.declared.ends.Booted.TheVariants as kinds
 use Rattle.session_boots.specs.Lines.{id_of}
-use Rattle.session_boots.specs.Made.{AreBootsOf, AreMadeFor, AreStageBoots, IsBootOf, IsTurn, boot_items}
+use Rattle.session_boots.specs.Made.{AreBootsOf, AreMadeFor, AreStageBoots, IsBootOf, IsNextBoot, boot_items}
 
 abbrev pub pends : Device → Option Pending → Device
 pends d o = record d { pending = o }
@@ -32,9 +32,9 @@ pends d o = record d { pending = o }
 abbrev pub HasBoots : Pending → Type 0
 HasBoots q = (q.stage ≡ stages.Booting) ⊎ (q.stage ≡ stages.Backing)
 
-pub duty_turn : (d : Device) (q : Pending) → HasBoots q → (duty_in d q).turn ≡ turn_of q
-duty_turn d q (inl is) = rw is refl
-duty_turn d q (inr is) = rw is refl
+pub duty_next : (d : Device) (q : Pending) → HasBoots q → (duty_in d q).next_bootstrap ≡ next_bootstrap_of q
+duty_next d q (inl is) = rw is refl
+duty_next d q (inr is) = rw is refl
 
 duty_begun : (d : Device) (q : Pending) → HasBoots q → (duty_in d q).begun ≡ q.begun
 duty_begun d q (inl is) = rw is refl
@@ -65,9 +65,9 @@ pub none_next : (q : Pending) → HasNone q → next_boot q ≡ None
 none_next q (inl is) = rw is refl
 none_next q (inr is) = rw is refl
 
-pub no_turn : (d : Device) (q : Pending) → HasNone q → (duty_in d q).turn ≡ None
-no_turn d q (inl is) = rw is refl
-no_turn d q (inr is) = rw is refl
+pub no_next : (d : Device) (q : Pending) → HasNone q → (duty_in d q).next_bootstrap ≡ None
+no_next d q (inl is) = rw is refl
+no_next d q (inr is) = rw is refl
 
 pub has_some : (q : Pending) → HasBoots q ⊎ HasNone q
 has_some q = by q.stage refl
@@ -87,7 +87,7 @@ has_by q o name none some (inr h) = absurd (never_named o name (none h) some)
 
 -- ---- the pending deployment, and what it asks for
 
-pub record InTurn (d : Device) (name : List ℕ) : Type 0 where
+pub record IsNextIn (d : Device) (name : List ℕ) : Type 0 where
   pub q : Pending
   pub pending : d.pending ≡ Some q
   pub has : HasBoots q
@@ -95,23 +95,23 @@ pub record InTurn (d : Device) (name : List ℕ) : Type 0 where
   pub failed : q.boot_failed ≡ false
   pub next : next_boot q ≡ Some name
 
-some_turn : (b : Bool) (o : Option (List ℕ)) (name : List ℕ) → (if b then None else o) ≡ Some name → (b ≡ false) × (o ≡ Some name)
-some_turn true o name h = absurd cc
-some_turn false o name h = (refl, h)
+some_next : (b : Bool) (o : Option (List ℕ)) (name : List ℕ) → (if b then None else o) ≡ Some name → (b ≡ false) × (o ≡ Some name)
+some_next true o name h = absurd cc
+some_next false o name h = (refl, h)
 
-pub in_turn : (d : Device) (name : List ℕ) → (duty_of d).turn ≡ Some name → InTurn d name
-in_turn d name turn = by d.pending turn
+pub next_in : (d : Device) (name : List ℕ) → (duty_of d).next_bootstrap ≡ Some name → IsNextIn d name
+next_in d name is_next = by d.pending is_next
   where
-    by : (o : Option Pending) → (duty_of (pends d o)).turn ≡ Some name → InTurn (pends d o) name
+    by : (o : Option Pending) → (duty_of (pends d o)).next_bootstrap ≡ Some name → IsNextIn (pends d o) name
     by None t = absurd (never_named None name refl t)
     by (Some q) t =
         let e = pends d (Some q) in
-        let has = has_by q (duty_in e q).turn name (no_turn e q) t (has_some q) in
-        let parts = some_turn q.boot_failed (next_boot q) name (sym (duty_turn e q has) ∙ t) in
+        let has = has_by q (duty_in e q).next_bootstrap name (no_next e q) t (has_some q) in
+        let parts = some_next q.boot_failed (next_boot q) name (sym (duty_next e q has) ∙ t) in
         record { q = q; pending = refl; has = has; duty = refl; failed = parts.0; next = parts.1 }
 
--- a turn as the calls of a state ask for it
-pub can_begin : (d : Device) (name : List ℕ) → InTurn d name → CanBegin d
+-- the next one as the calls of a state ask for it
+pub can_begin : (d : Device) (name : List ℕ) → IsNextIn d name → CanBegin d
 can_begin d name t = subst (λ (o : Option Pending). IsSomeAnd o (λ q. (q.boot_failed ≡ false) × IsSome (next_boot q))) (sym t.pending)
     (t.failed, ap (λ (o : Option (List ℕ)). is_some o) t.next)
 
@@ -119,69 +119,72 @@ pub named : (o : Option (List ℕ)) → is_some o ≡ true → (n : List ℕ) ×
 named None h = absurd cc
 named (Some n) h = (n, refl)
 
-turn_is : (b : Bool) (o : Option (List ℕ)) (name : List ℕ) → b ≡ false → o ≡ Some name → (if b then None else o) ≡ Some name
-turn_is b o name h k = rw (h, k) refl
+next_is : (b : Bool) (o : Option (List ℕ)) (name : List ℕ) → b ≡ false → o ≡ Some name → (if b then None else o) ≡ Some name
+next_is b o name h k = rw (h, k) refl
 
-pub turn_told : (d : Device) → CanBegin d → (name : List ℕ) × ((duty_of d).turn ≡ Some name)
-turn_told d can = by d.pending can
+pub next_told : (d : Device) → CanBegin d → (name : List ℕ) × ((duty_of d).next_bootstrap ≡ Some name)
+next_told d can = by d.pending can
   where
-    by : (o : Option Pending) → IsSomeAnd o (λ q. (q.boot_failed ≡ false) × IsSome (next_boot q)) → (name : List ℕ) × ((duty_of (pends d o)).turn ≡ Some name)
+    by : (o : Option Pending) → IsSomeAnd o (λ q. (q.boot_failed ≡ false) × IsSome (next_boot q))
+        → (name : List ℕ) × ((duty_of (pends d o)).next_bootstrap ≡ Some name)
     by None c = absurd c
     by (Some q) c =
         let n = named (next_boot q) c.1 in
         let has = has_by q (next_boot q) n.0 (none_next q) n.1 (has_some q) in
-        (n.0, duty_turn (pends d (Some q)) q has ∙ turn_is q.boot_failed (next_boot q) n.0 c.0 n.1)
+        (n.0, duty_next (pends d (Some q)) q has ∙ next_is q.boot_failed (next_boot q) n.0 c.0 n.1)
 
 -- ---- the record that it begins
 
-pub mark_begun : (d : Device) (name : List ℕ) → InTurn d name → IsMark d marks.BootBegun (stored.BootBegun name)
+pub mark_begun : (d : Device) (name : List ℕ) → IsNextIn d name → IsMark d marks.BootBegun (stored.BootBegun name)
 mark_begun d name t = subst (λ (o : Option Pending). IsSomeAnd o (λ q. IsMarkOf d.set q marks.BootBegun (stored.BootBegun name))) (sym t.pending)
     (name, t.next, refl)
 
 -- it is lawful where it was not begun
-pub allowed_begun : (d : Device) (name : List ℕ) (t : InTurn d name) → t.q.begun ≡ false → Allowed d (stored.BootBegun name)
+pub allowed_begun : (d : Device) (name : List ℕ) (t : IsNextIn d name) → t.q.begun ≡ false → Allowed d (stored.BootBegun name)
 allowed_begun d name t new = subst (λ (o : Option Pending). IsSomeAnd o (λ q. (q.boot_failed ≡ false) × (next_boot q ≡ Some name) × (q.begun ≡ false)))
     (sym t.pending) (t.failed, t.next, new)
 
-pub was_begun : (d : Device) (name : List ℕ) (t : InTurn d name) → t.q.begun ≡ true → IsBegun d
+pub was_begun : (d : Device) (name : List ℕ) (t : IsNextIn d name) → t.q.begun ≡ true → IsBegun d
 was_begun d name t old = subst (λ (o : Option Pending). IsSomeAnd o (λ q. q.begun ≡ true)) (sym t.pending) old
 
 -- all that it changes of the duty
-pub begun_duty : (d : Device) (name : List ℕ) → (duty_of d).turn ≡ Some name → duty_of (applied d (stored.BootBegun name)) ≡ record (duty_of d) { begun = true }
-begun_duty d name turn = by d.pending turn
+pub begun_duty : (d : Device) (name : List ℕ) → (duty_of d).next_bootstrap ≡ Some name
+    → duty_of (applied d (stored.BootBegun name)) ≡ record (duty_of d) { begun = true }
+begun_duty d name is_next = by d.pending is_next
   where
-    by : (o : Option Pending) → (duty_of (pends d o)).turn ≡ Some name →
+    by : (o : Option Pending) → (duty_of (pends d o)).next_bootstrap ≡ Some name →
         duty_of (pends d (option_map begun o)) ≡ record (duty_of (pends d o)) { begun = true }
     by None t = absurd (never_named None name refl t)
-    by (Some q) t = duty_on (pends d (Some q)) q (has_by q (duty_in (pends d (Some q)) q).turn name (no_turn (pends d (Some q)) q) t (has_some q))
+    by (Some q) t = duty_on (pends d (Some q)) q (has_by q (duty_in (pends d (Some q)) q).next_bootstrap name (no_next (pends d (Some q)) q) t (has_some q))
 
-pub turn_begun : (d e : Device) (m : Prepared) (name : List ℕ) → (duty_of d).turn ≡ Some name → e ≡ applied d (stored.BootBegun name) → IsTurn d m → IsTurn e m
-turn_begun d e m name turn same t = subst (λ (x : Device). IsTurn x m) (sym same) (
-    let duty = begun_duty d name turn in
+pub next_begun : (d e : Device) (m : Prepared) (name : List ℕ) → (duty_of d).next_bootstrap ≡ Some name
+    → e ≡ applied d (stored.BootBegun name) → IsNextBoot d m → IsNextBoot e m
+next_begun d e m name is_next same t = subst (λ (x : Device). IsNextBoot x m) (sym same) (
+    let duty = begun_duty d name is_next in
     record {
       origin = t.origin;
       of_device = t.of_device;
       name = t.name;
-      turn = ap (λ (x : Duty). x.turn) duty ∙ t.turn;
+      next = ap (λ (x : Duty). x.next_bootstrap) duty ∙ t.next;
       of = subst (λ (x : Duty). IsBootOf t.origin x.boots t.name m) (sym duty) t.of;
     })
 
-pub begun_told : (d e : Device) (name : List ℕ) → (duty_of d).turn ≡ Some name → e ≡ applied d (stored.BootBegun name) → (duty_of e).begun ≡ true
-begun_told d e name turn same = ap (λ (x : Device). (duty_of x).begun) same ∙ ap (λ (x : Duty). x.begun) (begun_duty d name turn)
+pub begun_told : (d e : Device) (name : List ℕ) → (duty_of d).next_bootstrap ≡ Some name → e ≡ applied d (stored.BootBegun name) → (duty_of e).begun ≡ true
+begun_told d e name is_next same = ap (λ (x : Device). (duty_of x).begun) same ∙ ap (λ (x : Duty). x.begun) (begun_duty d name is_next)
 
 -- ---- the record of its end
 
-pub allowed_ended : (d : Device) (name : List ℕ) (e : Exit) → InTurn d name → (duty_of d).begun ≡ true → Allowed d (stored.BootEnded name e)
+pub allowed_ended : (d : Device) (name : List ℕ) (e : Exit) → IsNextIn d name → (duty_of d).begun ≡ true → Allowed d (stored.BootEnded name e)
 allowed_ended d name e t begun =
     let old = sym (ap (λ (x : Duty). x.begun) t.duty ∙ duty_begun d t.q t.has) ∙ begun in
     subst (λ (o : Option Pending). IsSomeAnd o (λ q. (q.boot_failed ≡ false) × (next_boot q ≡ Some name) × (q.begun ≡ true))) (sym t.pending)
     (t.failed, t.next, old)
 
-pub mark_ended : (d : Device) (name : List ℕ) (e : Exit) → InTurn d name → IsMark d (marks.BootEnded e) (stored.BootEnded name e)
+pub mark_ended : (d : Device) (name : List ℕ) (e : Exit) → IsNextIn d name → IsMark d (marks.BootEnded e) (stored.BootEnded name e)
 mark_ended d name e t = subst (λ (o : Option Pending). IsSomeAnd o (λ q. IsMarkOf d.set q (marks.BootEnded e) (stored.BootEnded name e))) (sym t.pending)
     (name, t.next, refl)
 
-pub may_end : (d : Device) (name : List ℕ) (e : Exit) → InTurn d name → (duty_of d).begun ≡ true → MayMark d (marks.BootEnded e)
+pub may_end : (d : Device) (name : List ℕ) (e : Exit) → IsNextIn d name → (duty_of d).begun ≡ true → MayMark d (marks.BootEnded e)
 may_end d name e t begun = (stored.BootEnded name e, mark_ended d name e t, allowed_ended d name e t begun)
 
 -- the end asks for a restart by 100 and 101, and by 0 where it is the last
@@ -218,7 +221,7 @@ same_id d name e = by d.pending
     by (Some q) = ap (λ (x : Plan). x.id) (same_plan (goes_on e) (has_gone_back (one_ended q)) q)
 
 -- a failed one still comes next
-pub still_named : (d : Device) (name : List ℕ) (e : Exit) → InTurn d name → goes_on e ≡ false → next_name (applied d (stored.BootEnded name e)) ≡ Some name
+pub still_named : (d : Device) (name : List ℕ) (e : Exit) → IsNextIn d name → goes_on e ≡ false → next_name (applied d (stored.BootEnded name e)) ≡ Some name
 still_named d name e t fails = by d.pending t.q t.pending t.next
   where
     failed_is : (b : Bool) (q : Pending) → b ≡ false → (if b then moved_on q else record q { boot_failed = true }) ≡ record q { boot_failed = true }
@@ -232,9 +235,9 @@ still_named d name e t fails = by d.pending t.q t.pending t.next
 
 -- ---- what was made ready
 
-pub made_turn : (d : Device) (name : List ℕ) (made : List Prepared) (t : InTurn d name) (o : Origin) → d.origin ≡ Some o → AreStageBoots d made →
+pub made_next : (d : Device) (name : List ℕ) (made : List Prepared) (t : IsNextIn d name) (o : Origin) → d.origin ≡ Some o → AreStageBoots d made →
     IsSomeAnd (slice_get made t.q.ended) (IsBootOf o (duty_of d).boots name)
-made_turn d name made t o origin are =
+made_next d name made t o origin are =
     let here = subst (λ (x : Option Pending). IfSome x (λ q. AreMadeFor d q made)) t.pending are in
     let for_origin = subst (λ (x : Option Origin). IsSomeAnd x (λ o. AreBootsOf o (boot_items d t.q) (boots_of t.q) made)) origin here in
     let items = sym (ap (λ (x : Duty). x.boots) t.duty ∙ duty_items d t.q t.has) in

@@ -1,9 +1,9 @@
 -- Runs of records join, and so does what a crash may leave of them.
 use Rattle.std.specs.Prelude.{ℕ, Bool, List, [], ◌∷◌, ◌++◌}
 use Rattle.std.proofs.Common.{◌∙◌, inl, inr, refl, sym, ap, subst, append_assoc, arith}
-use Rattle.disk_model.specs.Disk.{Image, After, Leaves, DiskLaws}
+use Rattle.disk_model.specs.Disk.{Image, IsAfter, HasLeft, DiskLaws}
 use Rattle.disk_model.specs.Moments.{now}
-use Rattle.gate_log.specs.Journal.{Within}
+use Rattle.gate_log.specs.Journal.{IsChangeIn}
 use Rattle.records.specs.Stored.{Record}
 use Rattle.device.specs.Devices.{Device}
 use Rattle.device.specs.Lawful.{Run, Allowed, applied}
@@ -17,45 +17,45 @@ run_on d [] c second e h k = subst (λ (x : Device). Run x second e) h k
 run_on d (r ∷ first) c second e h k = (h.0, h.1, run_on h.0 first c second e h.2 k)
 
 module _ (entries : Image → List (List ℕ) → Type 0) where
-  pub front_more : (d : Device) (first second : List Record) (image : Image) → StandsForPrefix entries d first image →
+  pub prefix_more : (d : Device) (first second : List Record) (image : Image) → StandsForPrefix entries d first image →
       StandsForPrefix entries d (first ++ second) image
-  front_more d first second image h = record {
-    front = h.front;
+  prefix_more d first second image h = record {
+    prefix = h.prefix;
     rest = h.rest ++ second;
-    split = ap (λ (l : List Record). l ++ second) h.split ∙ append_assoc h.front h.rest second;
+    split = ap (λ (l : List Record). l ++ second) h.split ∙ append_assoc h.prefix h.rest second;
     device = h.device;
     run = h.run;
     stands = h.stands;
   }
 
-  pub front_behind : (d : Device) (first second : List Record) (c : Device) (image : Image) → Run d first c → StandsForPrefix entries c second image →
+  pub prefix_after : (d : Device) (first second : List Record) (c : Device) (image : Image) → Run d first c → StandsForPrefix entries c second image →
       StandsForPrefix entries d (first ++ second) image
-  front_behind d first second c image run h = record {
-    front = first ++ h.front;
+  prefix_after d first second c image run h = record {
+    prefix = first ++ h.prefix;
     rest = h.rest;
-    split = ap (λ (l : List Record). first ++ l) h.split ∙ sym (append_assoc first h.front h.rest);
+    split = ap (λ (l : List Record). first ++ l) h.split ∙ sym (append_assoc first h.prefix h.rest);
     device = h.device;
-    run = run_on d first c h.front h.device run h.run;
+    run = run_on d first c h.prefix h.device run h.run;
     stands = h.stands;
   }
 
   pub most_behind : (d : Device) (first second : List Record) (c : Device) (image : Image) → Run d first c → StandsForMost entries c second image →
       StandsForMost entries d (first ++ second) image
   most_behind d first second c image run h = record {
-    front = first ++ h.front;
+    prefix = first ++ h.prefix;
     rest = h.rest;
-    split = ap (λ (l : List Record). first ++ l) h.split ∙ sym (append_assoc first h.front h.rest);
+    split = ap (λ (l : List Record). first ++ l) h.split ∙ sym (append_assoc first h.prefix h.rest);
     few = h.few;
     device = h.device;
-    run = run_on d first c h.front h.device run h.run;
+    run = run_on d first c h.prefix h.device run h.run;
     stands = h.stands;
   }
 
   -- the device before a record, or with it
-  either_front : (d : Device) (r : Record) (c : Image) → Allowed d r → StandsForEither entries d (applied d r) c → StandsForPrefix entries d (r ∷ []) c
-  either_front d r c allowed (inl h) = record { front = []; rest = r ∷ []; split = refl; device = d; run = refl; stands = h }
-  either_front d r c allowed (inr h) = record {
-    front = r ∷ [];
+  either_prefix : (d : Device) (r : Record) (c : Image) → Allowed d r → StandsForEither entries d (applied d r) c → StandsForPrefix entries d (r ∷ []) c
+  either_prefix d r c allowed (inl h) = record { prefix = []; rest = r ∷ []; split = refl; device = d; run = refl; stands = h }
+  either_prefix d r c allowed (inr h) = record {
+    prefix = r ∷ [];
     rest = [];
     split = refl;
     device = applied d r;
@@ -65,9 +65,9 @@ module _ (entries : Image → List (List ℕ) → Type 0) where
   }
 
   either_most : (d : Device) (r : Record) (c : Image) → Allowed d r → StandsForEither entries d (applied d r) c → StandsForMost entries d (r ∷ []) c
-  either_most d r c allowed (inl h) = record { front = []; rest = r ∷ []; split = refl; few = omega arith; device = d; run = refl; stands = h }
+  either_most d r c allowed (inl h) = record { prefix = []; rest = r ∷ []; split = refl; few = omega arith; device = d; run = refl; stands = h }
   either_most d r c allowed (inr h) = record {
-    front = r ∷ [];
+    prefix = r ∷ [];
     rest = [];
     split = refl;
     few = omega arith;
@@ -79,7 +79,7 @@ module _ (entries : Image → List (List ℕ) → Type 0) where
 
   -- no record, and the image stands for the device
   pub none_most : (d : Device) (c : Image) → StandsFor entries c d → StandsForMost entries d [] c
-  none_most d c h = record { front = []; rest = []; split = refl; few = omega arith; device = d; run = refl; stands = h }
+  none_most d c h = record { prefix = []; rest = []; split = refl; few = omega arith; device = d; run = refl; stands = h }
 
   module _ (files : List ℕ → Type 0) {D : Type 0} {may_leave : D → Image → Type 0} {moment : D → ℕ} {left_since : D → ℕ → Image → Type 0} {is_modelled : Bool}
       {seen : D → Image}
@@ -87,26 +87,27 @@ module _ (entries : Image → List (List ℕ) → Type 0) where
     pub no_record : (disk : D) (d : Device) → ((c : Image) → may_leave disk c → StandsFor entries c d) →
         HoldsPrefixes entries files may_leave moment left_since disk disk d []
     no_record disk d stands = start_within laws files disk (StandsForPrefix entries d [])
-        (λ c left. record { front = []; rest = []; split = refl; device = d; run = refl; stands = stands c left })
+        (λ c left. record { prefix = []; rest = []; split = refl; device = d; run = refl; stands = stands c left })
 
     pub one_record : (old new : D) (d : Device) (r : Record) → Allowed d r
-        → Leaves moment left_since old new (After (may_leave old) (Within files (StandsForEither entries d (applied d r)))) →
+        → HasLeft moment left_since old new (IsAfter (may_leave old) (IsChangeIn files (StandsForEither entries d (applied d r)))) →
         HoldsPrefixes entries files may_leave moment left_since old new d (r ∷ [])
     one_record old new d r allowed leaves = more_within laws files old new (StandsForEither entries d (applied d r)) (StandsForPrefix entries d (r ∷ []))
-        (λ c h. either_front d r c allowed h) leaves
+        (λ c h. either_prefix d r c allowed h) leaves
 
-    pub fronts_join : (old mid new : D) (d : Device) (first : List Record) (c : Device) (second : List Record) →
+    pub prefixes_join : (old mid new : D) (d : Device) (first : List Record) (c : Device) (second : List Record) →
         HoldsPrefixes entries files may_leave moment left_since old mid d first → Run d first c
         → HoldsPrefixes entries files may_leave moment left_since mid new c second → HoldsPrefixes entries files may_leave moment left_since old new d
         (first ++ second)
-    fronts_join old mid new d first c second one run two =
+    prefixes_join old mid new d first c second one run two =
         then_within laws files old mid new (StandsForPrefix entries d first) (StandsForPrefix entries c second) (StandsForPrefix entries d (first ++ second))
         one two
-        (λ i h. front_more d first second i h) (λ i h. front_behind d first second c i run h)
+        (λ i h. prefix_more d first second i h) (λ i h. prefix_after d first second c i run h)
 
     -- the images of now, after a record that is in doubt
     pub in_doubt : (old new : D) (d : Device) (r : Record) → Allowed d r
-        → Leaves moment left_since old new (After (may_leave old) (Within files (StandsForEither entries d (applied d r)))) → (c : Image) → may_leave new c →
+        → HasLeft moment left_since old new (IsAfter (may_leave old) (IsChangeIn files (StandsForEither entries d (applied d r)))) → (c : Image) →
+        may_leave new c →
         StandsForMost entries d (r ∷ []) c
     in_doubt old new d r allowed leaves c left = either_most d r c allowed
-        (now laws old new (After (may_leave old) (Within files (StandsForEither entries d (applied d r)))) leaves c left).2.here
+        (now laws old new (IsAfter (may_leave old) (IsChangeIn files (StandsForEither entries d (applied d r)))) leaves c left).2.here

@@ -2,7 +2,7 @@
 use Rattle.std.specs.Prelude.{ℕ, Bool, true, false, List, [], ◌∷◌, Option, is_none, is_some, if◌then◌else◌}
 use Rattle.std.proofs.Common.{◌≡◌, ◌∙◌, refl, sym, ap, subst}
 use Rattle.std.proofs.lemmas.List.{append-nil}
-use Rattle.disk_model.specs.Disk.{Image, Leaves, DiskLaws}
+use Rattle.disk_model.specs.Disk.{Image, HasLeft, DiskLaws}
 use Rattle.nuc_base.specs.declared.kinds.Exit.{Exit}
 use Rattle.nuc_base.specs.declared.kinds.Step.TheVariants as steps
 use Rattle.records.specs.Stored as stored
@@ -27,7 +27,7 @@ use Rattle.session_boots.specs.declared.ends.SessionFault.TheVariants as over
 use Rattle.session_boots.specs.Stands.{IsBetween, IsAtBootStage}
 use Rattle.session_boots.specs.Steps.{HasEnd}
 use Rattle.session_boots.specs.Traces.{StandsForMost, IsTrace}
-use Rattle.session_boots.proofs.Duties.{InTurn, allowed_begun, restart_is, same_id, was_begun}
+use Rattle.session_boots.proofs.Duties.{IsNextIn, allowed_begun, restart_is, same_id, was_begun}
 use Rattle.session_boots.proofs.Entries.{never}
 use Rattle.session_boots.proofs.Prefixes.{in_doubt}
 use Rattle.session_boots.proofs.Acting.{acts_none}
@@ -44,17 +44,22 @@ begin_follows : (p : SessionState) (d : Device) (world : Components) (told : Tol
     MayFollow p (Recorded (stored.BootBegun name))
 begin_follows p d world told living name f = (
   (
-    record { told = f.between.still.quiet.told; alone = f.between.boot; no_end = f.between.boot_end; on = still_on p.generation f.between.still.generation },
+    record {
+      owes_none = f.between.still.quiet.owes_none;
+      alone = f.between.boot;
+      no_end = f.between.boot_end;
+      on = still_on p.generation f.between.still.generation;
+    },
     f.between.still.stopped,
   ),
   (λ cut. absurd (never p.cut f.between.still.cut cut)),
   f.over,
 )
 
-pub front_begun : (p : SessionState) (d e : Device) (world : Components) (told : Told) (living : List ℕ) (name : List ℕ) →
+pub stage_begun : (p : SessionState) (d e : Device) (world : Components) (told : Told) (living : List ℕ) (name : List ℕ) →
     IsAtBootStage p d world told living → e ≡ applied d (stored.BootBegun name)
     → IsAtBootStage (leaves p (Recorded (stored.BootBegun name))) e world told living
-front_begun p d e world told living name f same =
+stage_begun p d e world told living name f same =
     let s = f.between.stands in
     record {
       between = record {
@@ -74,8 +79,8 @@ front_begun p d e world told living name f same =
       over = refl;
     }
 
-pub front_bare : (p : SessionState) (d : Device) (world : Components) (told : Told) (living : List ℕ) → IsAtBootStage p d world told living → IsBare p
-front_bare p d world told living f = record { parts = childless p.world f.between.still.stopped; boot = f.between.boot }
+pub stage_bare : (p : SessionState) (d : Device) (world : Components) (told : Told) (living : List ℕ) → IsAtBootStage p d world told living → IsBare p
+stage_bare p d world told living f = record { parts = childless p.world f.between.still.stopped; boot = f.between.boot }
 
 pub bare_begun : (p : SessionState) (name : List ℕ) → IsBare p → IsBare (leaves p (Recorded (stored.BootBegun name)))
 bare_begun p name b = record { parts = b.parts; boot = b.boot }
@@ -112,10 +117,11 @@ bare_ended p d exit world told living name h = record { parts = childless p.worl
 
 -- whether the call ends there
 pub over_ended : (p : SessionState) (d e : Device) (exit : Exit) (name : List ℕ) → p.device ≡ d → e ≡ applied d (stored.BootEnded name exit)
-    → (leaves p (Recorded (stored.BootEnded name exit))).over ≡ is_some (restart_of exit (is_none (duty_of e).turn))
+    → (leaves p (Recorded (stored.BootEnded name exit))).over ≡ is_some (restart_of exit (is_none (duty_of e).next_bootstrap))
 over_ended p d e exit name device same =
-    restart_is exit (is_none (duty_of (applied p.device (stored.BootEnded name exit))).turn)
-    ∙ ap (λ (x : Device). is_some (restart_of exit (is_none (duty_of x).turn))) (ap (λ (x : Device). applied x (stored.BootEnded name exit)) device ∙ sym same)
+    restart_is exit (is_none (duty_of (applied p.device (stored.BootEnded name exit))).next_bootstrap)
+    ∙ ap (λ (x : Device). is_some (restart_of exit (is_none (duty_of x).next_bootstrap)))
+    (ap (λ (x : Device). applied x (stored.BootEnded name exit)) device ∙ sym same)
 
 -- its line
 same_line : (d e : Device) (name : List ℕ) (exit : Exit) → id_of e ≡ id_of d → line_of e (stored.BootEnded name exit) ≡ line_of d (stored.BootEnded name exit)
@@ -133,7 +139,7 @@ module _ (entries : Image → List (List ℕ) → Type 0) (files : List ℕ → 
     ℕ → Image → Type 0} {is_modelled : Bool} {seen : D → Image}
     (laws : DiskLaws is_modelled seen may_leave moment left_since) where
   abbrev Notes : D → D → Device → Record → Type 0
-  Notes old new d r = Leaves moment left_since old new (LeavesEither may_leave files entries old d (applied d r))
+  Notes old new d r = HasLeft moment left_since old new (LeavesEither may_leave files entries old d (applied d r))
 
   pub begin_went : (old new : D) (list : Option (List RunnerEntry)) (p : SessionState) (d : Device) (world : Components) (told : Told) (living : List ℕ)
       (name : List ℕ) → IsAtBootStage p d world told living → Allowed d (stored.BootBegun name)
@@ -171,7 +177,7 @@ module _ (entries : Image → List (List ℕ) → Type 0) (files : List ℕ → 
 
   -- where it was begun before nothing happens, and else its record is kept
   pub begun_went : (old new : D) (list : Option (List RunnerEntry)) (p : SessionState) (d e : Device) (world : Components) (told : Told) (living : List ℕ)
-      (name : List ℕ) (t : InTurn d name) → IsAtBootStage p d world told living
+      (name : List ℕ) (t : IsNextIn d name) → IsAtBootStage p d world told living
       → ((c : Image) → may_leave old c → StandsFor entries c d) → (IsBegun d → new ≡ old) → (IsBegun d → e ≡ d) → Notes old new d (stored.BootBegun name) →
       e ≡ applied d (stored.BootBegun name)
       → (h : List TraceEvent) × IsTrace entries files may_leave moment left_since old new list list p h × (lines_of p.device (records_of h) ≡ []) ×
@@ -191,11 +197,11 @@ module _ (entries : Image → List (List ℕ) → Type 0) (files : List ℕ → 
         Recorded (stored.BootBegun name) ∷ [],
         begin_went old new list p d world told living name f (allowed_begun d name t is) notes,
         refl,
-        front_begun p d e world told living name f same,
+        stage_begun p d e world told living name f same,
       )
 
   pub begun_doubt : (old new : D) (list : Option (List RunnerEntry)) (p : SessionState) (d : Device) (world : Components) (told : Told) (living : List ℕ)
-      (name : List ℕ) (t : InTurn d name) → IsAtBootStage p d world told living
+      (name : List ℕ) (t : IsNextIn d name) → IsAtBootStage p d world told living
       → (IsBegun d → ⊥) → Notes old new d (stored.BootBegun name)
       → (h : List TraceEvent) × IsTrace entries files may_leave moment left_since old new list list p h × (lines_of p.device (records_of h) ≡ []) ×
       LeftAt entries may_leave new p h over.Disk × IsBare (state_after p h) × IsOne (records_of h)
@@ -211,6 +217,6 @@ module _ (entries : Image → List (List ℕ) → Type 0) (files : List ℕ → 
             begin_went old new list p d world told living name f allowed notes,
             refl,
             doubt_at old new p d (stored.BootBegun name) f.between.stands.device_is allowed notes,
-            bare_begun p name (front_bare p d world told living f),
+            bare_begun p name (stage_bare p d world told living f),
             (stored.BootBegun name, refl),
           )

@@ -10,7 +10,7 @@ use Rattle.step_runner.specs.Entries.{Told}
 use Rattle.components.specs.Components.{Components}
 use Rattle.histories.specs.Phases.{duty_of}
 use Rattle.histories.specs.States.{SessionState}
-use Rattle.session_boots.specs.Booted.{BootsLeft, EndsWith, restart_of}
+use Rattle.session_boots.specs.Booted.{BootsLeft, LastBootEnded, restart_of}
 use Rattle.session_boots.specs.Stands.{IsBetween}
 use Rattle.session_boots.specs.declared.ends.Booted.{Booted}
 use Rattle.session_boots.specs.declared.ends.Booted.TheVariants as booted
@@ -52,15 +52,16 @@ asks exits.Lost last end is = absurd cc
 
 pub ends_call : (end : Booted) (records : List Record) (q : SessionState) (d : Device) (world : Components) (told : Told) (living : List ℕ) (x : Exit)
     (last : Bool) (r : Option Booted) → IsBetween q d world told living
-    → q.over ≡ is_some (restart_of x (is_none (duty_of d).turn)) → EndsWith x records → r ≡ restart_of x last → last ≡ is_none (duty_of d).turn →
+    → q.over ≡ is_some (restart_of x (is_none (duty_of d).next_bootstrap)) → LastBootEnded x records → r ≡ restart_of x last
+    → last ≡ is_none (duty_of d).next_bootstrap →
     r ≡ Some end → BootsLeft end records q d world told living
 ends_call booted.Through records q d world told living x last r between over ends is same some =
-    absurd ((asks x (is_none (duty_of d).turn) booted.Through (asked x last (is_none (duty_of d).turn) r is same ∙ some)).0 refl)
+    absurd ((asks x (is_none (duty_of d).next_bootstrap) booted.Through (asked x last (is_none (duty_of d).next_bootstrap) r is same ∙ some)).0 refl)
 ends_call booted.Failed records q d world told living x last r between over ends is same some =
-    absurd ((asks x (is_none (duty_of d).turn) booted.Failed (asked x last (is_none (duty_of d).turn) r is same ∙ some)).1 refl)
+    absurd ((asks x (is_none (duty_of d).next_bootstrap) booted.Failed (asked x last (is_none (duty_of d).next_bootstrap) r is same ∙ some)).1 refl)
 ends_call booted.Restart records q d world told living x last r between over ends is same some =
-    let told_so = asked x last (is_none (duty_of d).turn) r is same ∙ some in
+    let told_so = asked x last (is_none (duty_of d).next_bootstrap) r is same ∙ some in
     (between, over ∙ ap (λ (o : Option Booted). is_some o) told_so, (x, ends, told_so))
 ends_call booted.Reboot records q d world told living x last r between over ends is same some =
-    let told_so = asked x last (is_none (duty_of d).turn) r is same ∙ some in
+    let told_so = asked x last (is_none (duty_of d).next_bootstrap) r is same ∙ some in
     (between, over ∙ ap (λ (o : Option Booted). is_some o) told_so, (x, ends, told_so))

@@ -1,4 +1,4 @@
--- What the records of one deployment leave as it is: of a bootstrap, of a stage that begins, of a failure and of a turn back.
+-- What the records of one deployment leave as it is: of a bootstrap, of a stage that begins, of a failure and of a rollback.
 use Rattle.std.specs.Prelude.{ℕ, Bool, true, false, List, [], ◌∷◌, Option, Some, None, option_map, if◌then◌else◌}
 use Rattle.std.specs.Option.{IsSomeAnd}
 use Rattle.std.proofs.Common.{◌≡◌, ◌∙◌, refl, sym, ap, subst}
@@ -8,10 +8,10 @@ use Rattle.records.specs.Stored.{Plan, Record}
 use Rattle.records.specs.Stored as stored
 use Rattle.device.specs.Devices.{Device, Pending}
 use Rattle.device.specs.Lawful.{activated, applied, begun, boot_ended, count_failure, counted, failing_name, failing_place, goes_on, has_gone_back, moved_on}
-use Rattle.device.specs.Lawful.{on_pending, one_ended, rolled, turned_back}
+use Rattle.device.specs.Lawful.{on_pending, one_ended, rolled, sent_back}
 use Rattle.deploy_state.specs.Fields.{IsBreak, backs_now, break_by}
 use Rattle.session_boots.specs.Same.{IsSameDeployment}
-use Rattle.session_boots.specs.Turns.{Turns}
+use Rattle.session_boots.specs.Turns.{DeviceAfterBoot}
 
 pub same_refl : (d : Device) → IsSameDeployment d d
 same_refl d = record { origin = refl; set = refl; plan = refl }
@@ -57,25 +57,25 @@ same_counted d name s e = same_pending (count_failure d.set name) (λ q. plan_co
 pub same_rolled : (d : Device) (name : List ℕ) → IsSameDeployment d (applied d (stored.Failing name))
 same_rolled d name = same_pending rolled (λ q. refl) d
 
-pub same_turned_back : (d : Device) (name : List ℕ) → IsSameDeployment d (applied d (stored.FailingBack name))
-same_turned_back d name = same_pending (turned_back d.origin d.set) (λ q. refl) d
+pub same_sent_back : (d : Device) (name : List ℕ) → IsSameDeployment d (applied d (stored.FailingBack name))
+same_sent_back d name = same_pending (sent_back d.origin d.set) (λ q. refl) d
 
 -- ---- by what is made of them
 
 -- a step begins and ends
-pub same_turned : (d e : Device) (exit : Exit) → Turns d exit e → IsSameDeployment d e
+pub same_turned : (d e : Device) (exit : Exit) → DeviceAfterBoot d exit e → IsSameDeployment d e
 same_turned d e exit t =
     let begins = subst (λ (x : Device). IsSameDeployment d x) (sym t.1.2) (same_begun d t.1.0) in
     let ends = subst (λ (x : Device). IsSameDeployment t.0 x) (sym t.2.2) (same_ended t.0 t.2.0 exit) in
     same_trans d t.0 e begins ends
 
--- the deployment is turned back
+-- the deployment is rolled back
 pub same_broken : (d : Device) (r : Record) → IsBreak d r → IsSameDeployment d (applied d r)
 same_broken d r breaks = by d.pending breaks
   where
     by_backs : (backs : List (List ℕ)) (name : List ℕ) → IsSameDeployment d (applied d (break_by backs name))
     by_backs [] name = same_rolled d name
-    by_backs (b ∷ others) name = same_turned_back d name
+    by_backs (b ∷ others) name = same_sent_back d name
 
     by : (o : Option Pending) → IsSomeAnd o (λ q. (n : List ℕ) × (failing_name q ≡ Some n) × (r ≡ break_by (backs_now d q) n)) →
         IsSameDeployment d (applied d r)

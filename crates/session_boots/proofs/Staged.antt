@@ -21,7 +21,7 @@ use Rattle.deploy_state.specs.declared.state.Backed.TheVariants as backed
 use Rattle.components.specs.declared.kinds.Prepared.{Prepared}
 use Rattle.histories.specs.TraceEvents.{TraceEvent}
 use Rattle.histories.specs.States.{SessionState, state_after}
-use Rattle.session_boots.specs.Ends.{Left}
+use Rattle.session_boots.specs.Ends.{ResultLeft}
 use Rattle.session_boots.specs.Made.{AreBootsOf, AreMade, AreMadeAgain, AreMadeFor, AreStageBoots, boot_items}
 use Rattle.session_boots.specs.Staged.{IsStaged, backed_hand}
 use Rattle.session_boots.specs.declared.ends.SessionFault.{SessionFault}
@@ -86,6 +86,6 @@ same_device (backed.Rolling s) = refl
 
 pub left_as : {A D : Type 0} (entries : Image → List (List ℕ) → Type 0) (may_leave : D → Image → Type 0) (disk : D) (p : SessionState) (h : List TraceEvent)
     (before after : A → SessionState → Type 0) → ((x : A) (q : SessionState) → before x q → after x q) → (r : Result A SessionFault) →
-    Left entries may_leave disk p h before r → Left entries may_leave disk p h after r
+    ResultLeft entries may_leave disk p h before r → ResultLeft entries may_leave disk p h after r
 left_as entries may_leave disk p h before after to (Ok x) l = to x (state_after p h) l
 left_as entries may_leave disk p h before after to (Err e) l = l

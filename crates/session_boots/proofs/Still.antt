@@ -96,7 +96,7 @@ none_may m w (p ∷ ps) over h =
 
 pub later_quiet : (m : ℕ) (w : Components) → is_stopped w ≡ true → IsQuiet w → IsQuiet (later m w)
 later_quiet m w stopped quiet = record {
-  told = quiet.told;
+  owes_none = quiet.owes_none;
   none = none_may m w w.parts (not_false (list_any (λ p. not (is_over p)) w.parts) stopped) quiet.none;
 }
 

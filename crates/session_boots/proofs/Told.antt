@@ -34,16 +34,16 @@ pub lines_joined : (p : SessionState) (w t : List TraceEvent) → Run p.device (
 lines_joined p w t run = ap (λ (l : List Record). lines_of p.device l) (records-append t w) ∙ lines_on p.device (records_of w) (state_after p w).device
     (records_of t) run
 
-pub all_told : (a b c : Option (List ℕ)) (p : SessionState) (w t : List TraceEvent) → Run p.device (records_of w) (state_after p w).device
+pub all_printed : (a b c : Option (List ℕ)) (p : SessionState) (w t : List TraceEvent) → Run p.device (records_of w) (state_after p w).device
     → Appends a b (lines_of p.device (records_of w)) → Appends b c (lines_of (state_after p w).device (records_of t)) →
     Appends a c (lines_of p.device (records_of (t ++ w)))
-all_told a b c p w t run one two = subst (λ (l : List ℕ). Appends a c l) (sym (lines_joined p w t run))
+all_printed a b c p w t run one two = subst (λ (l : List ℕ). Appends a c l) (sym (lines_joined p w t run))
     (Appends-trans a b c (Printed p w) (Printed (state_after p w) t) one two)
 
-front_told : (a b c : Option (List ℕ)) (p : SessionState) (w t : List TraceEvent) → Run p.device (records_of w) (state_after p w).device
+prefix_told : (a b c : Option (List ℕ)) (p : SessionState) (w t : List TraceEvent) → Run p.device (records_of w) (state_after p w).device
     → Appends a b (lines_of p.device (records_of w)) → AppendsPrefix b c (lines_of (state_after p w).device (records_of t)) →
     AppendsPrefix a c (lines_of p.device (records_of (t ++ w)))
-front_told a b c p w t run one two = (
+prefix_told a b c p w t run one two = (
   Printed p w ++ two.0,
   two.1,
   lines_joined p w t run ∙ ap (λ (l : List ℕ). Printed p w ++ l) two.2 ∙ sym (append_assoc (Printed p w) two.0 two.1),
@@ -60,15 +60,15 @@ lines_at_joined a b c p w t over.Disk run one two = (
   subst (λ (l : List ℕ). Appends a c l) (sym (lines_on p.device (records_of w) (state_after p w).device two.0 run))
       (Appends-trans a b c (Printed p w) (lines_of (state_after p w).device two.0) one two.3),
 )
-lines_at_joined a b c p w t over.Output run one two = front_told a b c p w t run one two
+lines_at_joined a b c p w t over.Output run one two = prefix_told a b c p w t run one two
 
 -- nothing was written of lines
 none_told : (a : Option (List ℕ)) (lines : List ℕ) → AppendsPrefix a a lines
 none_told a lines = ([], lines, refl, Appends-nil a)
 
 -- a part without lines
-pub nothing_told : (a : Option (List ℕ)) (lines : List ℕ) → lines ≡ [] → Appends a a lines
-nothing_told a lines none = subst (λ (l : List ℕ). Appends a a l) (sym none) (Appends-nil a)
+pub nothing_printed : (a : Option (List ℕ)) (lines : List ℕ) → lines ≡ [] → Appends a a lines
+nothing_printed a lines none = subst (λ (l : List ℕ). Appends a a l) (sym none) (Appends-nil a)
 
 -- nothing was written of one record without a line
 pub none_at : (a : Option (List ℕ)) (d : Device) (records : List Record) (e : SessionFault) → IsOne records → LinesAt a a d records e
@@ -76,8 +76,8 @@ none_at a d records over.Disk one = ([], one.0, one.1, Appends-nil a)
 none_at a d records over.Output one = none_told a (lines_of d records)
 
 -- the line of a record that is in doubt was not written
-pub last_untold : (a : Option (List ℕ)) (d : Device) (r : Record) → LinesAt a a d (r ∷ []) over.Disk
-last_untold a d r = ([], r, refl, Appends-nil a)
+pub last_unprinted : (a : Option (List ℕ)) (d : Device) (r : Record) → LinesAt a a d (r ∷ []) over.Disk
+last_unprinted a d r = ([], r, refl, Appends-nil a)
 
 -- ---- nothing is started behind a record that may not be stable
 

@@ -15,7 +15,7 @@ use Rattle.histories.proofs.Joined.{left-append}
 use Rattle.session_boots.specs.Lines.{lines_of}
 use Rattle.session_boots.specs.Stands.{IsAtBootStage}
 use Rattle.session_boots.specs.Steps.{HasEnd, IsEnded}
-use Rattle.session_boots.specs.Traces.{Acts, IsTrace}
+use Rattle.session_boots.specs.Traces.{ActTrace, IsTrace}
 use Rattle.session_boots.proofs.Between.{has_end}
 use Rattle.session_boots.proofs.Joins.{opened, records_opened}
 
@@ -32,13 +32,13 @@ module _ (entries : Image → List (List ℕ) → Type 0) (files : List ℕ → 
     pub ran : (old mid : D) (p : SessionState) (d : Device) (exit : Exit) (world : Components) (told new : Told) (living next : List ℕ) (h g : List TraceEvent)
         → IsTrace entries files may_leave moment left_since old mid told.list told.list p h → lines_of p.device (records_of h) ≡ [] →
         IsAtBootStage (state_after p h) d world told living → ((c : Image) → may_leave mid c → StandsFor entries c d)
-        → Acts (state_after p h) g told.list new.list → IsEnded (state_after p h) (state_after (state_after p h) g) exit new → told.moment ≤ new.moment →
+        → ActTrace (state_after p h) g told.list new.list → IsEnded (state_after p h) (state_after (state_after p h) g) exit new → told.moment ≤ new.moment →
         next ≡ []
         → Ran old mid told.list new.list p d exit world new next (g ++ h)
-    ran old mid p d exit world told new living next h g trace none front stands acts ended later empty = record {
+    ran old mid p d exit world told new living next h g trace none at_stage stands acts ended later empty = record {
       trace = opened entries files laws old mid told.list new.list p h g trace
-          (λ c left. subst (λ (x : Device). StandsFor entries c x) (sym front.between.stands.device_is) (stands c left)) acts;
+          (λ c left. subst (λ (x : Device). StandsFor entries c x) (sym at_stage.between.stands.device_is) (stands c left)) acts;
       none = ap (λ (l : List Record). lines_of p.device l) (records_opened h g acts.none) ∙ none;
       end = subst (λ (q : SessionState). HasEnd q d exit world new next) (sym (left-append p g h))
-          (has_end (state_after p h) (state_after (state_after p h) g) d world told new living next exit front acts.device ended later empty);
+          (has_end (state_after p h) (state_after (state_after p h) g) d world told new living next exit at_stage acts.device ended later empty);
     }

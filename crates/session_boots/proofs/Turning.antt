@@ -13,9 +13,9 @@ use Rattle.device.specs.Lawful.{begun, boot_ended, boots_of, goes_on, has_gone_b
 use Rattle.deploy_state.specs.Fields.{has_failed, next_name}
 use Rattle.components.specs.declared.kinds.Prepared.{Prepared}
 use Rattle.histories.specs.Phases.{duty_in, duty_of}
-use Rattle.session_boots.specs.Made.{AreBootsOf, AreMadeFor, AreStageBoots, IsBootOf, IsTurn, boot_items}
-use Rattle.session_boots.specs.Turns.{Turns, steps_left}
-use Rattle.session_boots.proofs.Duties.{HasBoots, HasNone, InTurn, duty_turn, ended_so, has_some, in_turn, made_turn, no_turn, none_next, pends}
+use Rattle.session_boots.specs.Made.{AreBootsOf, AreMadeFor, AreStageBoots, IsBootOf, IsNextBoot, boot_items}
+use Rattle.session_boots.specs.Turns.{DeviceAfterBoot, steps_left}
+use Rattle.session_boots.proofs.Duties.{HasBoots, HasNone, IsNextIn, duty_next, ended_so, has_some, next_in, made_next, no_next, none_next, pends}
 
 -- ---- which comes next
 
@@ -31,25 +31,26 @@ some_origin : (P : Origin → Type 0) (x : Option Origin) → IsSomeAnd x P → 
 some_origin P None h = absurd h
 some_origin P (Some o) h = (o, refl)
 
-origin_of : (d : Device) (name : List ℕ) (made : List Prepared) (t : InTurn d name) → AreStageBoots d made → (o : Origin) × (d.origin ≡ Some o)
+origin_of : (d : Device) (name : List ℕ) (made : List Prepared) (t : IsNextIn d name) → AreStageBoots d made → (o : Origin) × (d.origin ≡ Some o)
 origin_of d name made t are =
     let here = subst (λ (x : Option Pending). IfSome x (λ q. AreMadeFor d q made)) t.pending are in
     some_origin (λ o. AreBootsOf o (boot_items d t.q) (boots_of t.q) made) d.origin here
 
-turn_made : (d : Device) (name : List ℕ) (made : List Prepared) (m : Prepared) (t : InTurn d name) → (duty_of d).turn ≡ Some name → AreStageBoots d made →
-    slice_get made t.q.ended ≡ Some m → IsTurn d m
-turn_made d name made m t turn are there =
+next_made : (d : Device) (name : List ℕ) (made : List Prepared) (m : Prepared) (t : IsNextIn d name) → (duty_of d).next_bootstrap ≡ Some name
+    → AreStageBoots d made →
+    slice_get made t.q.ended ≡ Some m → IsNextBoot d m
+next_made d name made m t is_next are there =
     let o = origin_of d name made t are in
-    let of = subst (λ (x : Option Prepared). IsSomeAnd x (IsBootOf o.0 (duty_of d).boots name)) there (made_turn d name made t o.0 o.1 are) in
-    record { origin = o.0; of_device = o.1; name = name; turn = turn; of = of }
+    let of = subst (λ (x : Option Prepared). IsSomeAnd x (IsBootOf o.0 (duty_of d).boots name)) there (made_next d name made t o.0 o.1 are) in
+    record { origin = o.0; of_device = o.1; name = name; next = is_next; of = of }
 
-turn_not_made : (d : Device) (name : List ℕ) (made : List Prepared) (t : InTurn d name) → AreStageBoots d made → slice_get made t.q.ended ≡ None → ⊥
-turn_not_made d name made t are none =
+next_not_made : (d : Device) (name : List ℕ) (made : List Prepared) (t : IsNextIn d name) → AreStageBoots d made → slice_get made t.q.ended ≡ None → ⊥
+next_not_made d name made t are none =
     let o = origin_of d name made t are in
-    subst (λ (x : Option Prepared). IsSomeAnd x (IsBootOf o.0 (duty_of d).boots name)) none (made_turn d name made t o.0 o.1 are)
+    subst (λ (x : Option Prepared). IsSomeAnd x (IsBootOf o.0 (duty_of d).boots name)) none (made_next d name made t o.0 o.1 are)
 
--- what the code looks up stands at the place of the turn
-place_told : (x : code.Device) (q : code_pending.Pending) (d : Device) (name : List ℕ) (t : InTurn d name) → device_view x ≡ d → x.pending ≡ Some q →
+-- what the code looks up stands at the place of the next one
+place_told : (x : code.Device) (q : code_pending.Pending) (d : Device) (name : List ℕ) (t : IsNextIn d name) → device_view x ≡ d → x.pending ≡ Some q →
     t.q.ended ≡ q.ended
 place_told x q d name t view is =
     let told = sym t.pending ∙ ap (λ (y : Device). y.pending) (sym view) ∙ ap (λ (o : Option code_pending.Pending). option_map pending_view o) is in
@@ -57,27 +58,27 @@ place_told x q d name t view is =
 
 module _ (x : code.Device) (q : code_pending.Pending) (d : Device) (made : List Prepared) (r : Option (Bor Prepared)) (view : device_view x ≡ d)
     (pending : x.pending ≡ Some q)
-    (are : AreStageBoots d made) (some : is_none (duty_of d).turn ≡ false)
+    (are : AreStageBoots d made) (some : is_none (duty_of d).next_bootstrap ≡ false)
     (there : option_map (λ (m : Bor Prepared). m.now) r ≡ slice_get made q.ended) where
-  abbrev name_is : (name : List ℕ) × ((duty_of d).turn ≡ Some name)
-  name_is = some_name (duty_of d).turn some
+  abbrev name_is : (name : List ℕ) × ((duty_of d).next_bootstrap ≡ Some name)
+  name_is = some_name (duty_of d).next_bootstrap some
 
-  abbrev turn_is : InTurn d name_is.0
-  turn_is = in_turn d name_is.0 name_is.1
+  abbrev next_is : IsNextIn d name_is.0
+  next_is = next_in d name_is.0 name_is.1
 
-  at_turn : slice_get made turn_is.q.ended ≡ option_map (λ (m : Bor Prepared). m.now) r
-  at_turn = ap (λ (n : ℕ). slice_get made n) (place_told x q d name_is.0 turn_is view pending) ∙ sym there
+  at_next : slice_get made next_is.q.ended ≡ option_map (λ (m : Bor Prepared). m.now) r
+  at_next = ap (λ (n : ℕ). slice_get made n) (place_told x q d name_is.0 next_is view pending) ∙ sym there
 
-  pub turn_at : IfSome r (λ (s : Bor Prepared). IsTurn d s.now)
-  turn_at = by r at_turn
+  pub next_at : IfSome r (λ (s : Bor Prepared). IsNextBoot d s.now)
+  next_at = by r at_next
     where
-      by : (o : Option (Bor Prepared)) → slice_get made turn_is.q.ended ≡ option_map (λ (m : Bor Prepared). m.now) o →
-          IfSome o (λ (s : Bor Prepared). IsTurn d s.now)
+      by : (o : Option (Bor Prepared)) → slice_get made next_is.q.ended ≡ option_map (λ (m : Bor Prepared). m.now) o →
+          IfSome o (λ (s : Bor Prepared). IsNextBoot d s.now)
       by None h = tt
-      by (Some s) h = turn_made d name_is.0 made s.now turn_is name_is.1 are h
+      by (Some s) h = next_made d name_is.0 made s.now next_is name_is.1 are h
 
   pub none_at : r ≡ None → ⊥
-  none_at none = turn_not_made d name_is.0 made turn_is are (at_turn ∙ ap (λ (o : Option (Bor Prepared)). option_map (λ (m : Bor Prepared). m.now) o) none)
+  none_at none = next_not_made d name_is.0 made next_is are (at_next ∙ ap (λ (o : Option (Bor Prepared)). option_map (λ (m : Bor Prepared). m.now) o) none)
 
 either : (b : Bool) (o : Option (List ℕ)) → (b || is_none o) ≡ is_none (if b then None else o)
 either true o = refl
@@ -88,15 +89,15 @@ neither true o is = refl
 neither false o is = ap (λ (x : Option (List ℕ)). is_none x) is
 
 -- whether none comes next
-pub through_is : (d : Device) → (has_failed d || is_none (next_name d)) ≡ is_none (duty_of d).turn
+pub through_is : (d : Device) → (has_failed d || is_none (next_name d)) ≡ is_none (duty_of d).next_bootstrap
 through_is d = by d.pending
   where
-    in_stage : (e : Device) (q : Pending) → HasBoots q ⊎ HasNone q → (q.boot_failed || is_none (next_boot q)) ≡ is_none (duty_in e q).turn
-    in_stage e q (inl has) = either q.boot_failed (next_boot q) ∙ sym (ap (λ (x : Option (List ℕ)). is_none x) (duty_turn e q has))
+    in_stage : (e : Device) (q : Pending) → HasBoots q ⊎ HasNone q → (q.boot_failed || is_none (next_boot q)) ≡ is_none (duty_in e q).next_bootstrap
+    in_stage e q (inl has) = either q.boot_failed (next_boot q) ∙ sym (ap (λ (x : Option (List ℕ)). is_none x) (duty_next e q has))
     in_stage e q (inr none) =
-        neither q.boot_failed (next_boot q) (none_next q none) ∙ sym (ap (λ (x : Option (List ℕ)). is_none x) (no_turn e q none))
+        neither q.boot_failed (next_boot q) (none_next q none) ∙ sym (ap (λ (x : Option (List ℕ)). is_none x) (no_next e q none))
 
-    by : (o : Option Pending) → (has_failed (pends d o) || is_none (next_name (pends d o))) ≡ is_none (duty_of (pends d o)).turn
+    by : (o : Option Pending) → (has_failed (pends d o) || is_none (next_name (pends d o))) ≡ is_none (duty_of (pends d o)).next_bootstrap
     by None = refl
     by (Some q) = in_stage (pends d (Some q)) q (has_some q)
 
@@ -105,7 +106,7 @@ through_is d = by d.pending
 abbrev turned : Exit → Device → Device
 turned exit d = on_pending (boot_ended exit) (on_pending begun d)
 
-turned_is : (d e : Device) (exit : Exit) → Turns d exit e → e ≡ turned exit d
+turned_is : (d e : Device) (exit : Exit) → DeviceAfterBoot d exit e → e ≡ turned exit d
 turned_is d e exit t = t.2.2 ∙ ap (λ (x : Device). on_pending (boot_ended exit) x) t.1.2
 
 none_made : (made : List Prepared) (x : Option Origin) (P : Origin → Type 0) → IsSomeAnd x P → IsSomeAnd x (λ o. AreBootsOf o [] [] made)
@@ -117,7 +118,7 @@ made_ended d made true true q are = none_made made d.origin (λ o. AreBootsOf o 
 made_ended d made true false q are = are
 made_ended d made false gone q are = are
 
-pub made_on : (d e : Device) (exit : Exit) (made : List Prepared) → Turns d exit e → AreStageBoots d made → AreStageBoots e made
+pub made_on : (d e : Device) (exit : Exit) (made : List Prepared) → DeviceAfterBoot d exit e → AreStageBoots d made → AreStageBoots e made
 made_on d e exit made t are = subst (λ (x : Device). AreStageBoots x made) (sym (turned_is d e exit t)) (by d.pending are)
   where
     by : (o : Option Pending) → AreStageBoots (pends d o) made → AreStageBoots (turned exit (pends d o)) made
@@ -144,9 +145,9 @@ fewer_ended true true q failed lt = none_less q.boot_failed (length (boots_of q)
 fewer_ended true false q failed lt = one_less q.boot_failed (length (boots_of q)) q.ended failed lt
 fewer_ended false gone q failed lt = no_more q.boot_failed (length (boots_of q)) q.ended failed
 
-pub fewer : (d e : Device) (exit : Exit) → Turns d exit e → steps_left e < steps_left d
+pub fewer : (d e : Device) (exit : Exit) → DeviceAfterBoot d exit e → steps_left e < steps_left d
 fewer d e exit t =
-    let n = in_turn d t.1.0 t.1.1 in
+    let n = next_in d t.1.0 t.1.1 in
     subst (λ (x : Device). steps_left x < steps_left d) (sym (turned_is d e exit t))
     (by d.pending n.q n.pending n.failed (slice_get_within (boots_of n.q) n.q.ended t.1.0 n.next))
   where

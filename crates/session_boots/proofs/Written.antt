@@ -14,8 +14,8 @@ accepted_joined id = simp append_assoc
 pub code_joined : (z : ℤ) → codes "code " ++ (signed_decimal z ++ (codes "\n" ++ [])) ≡ exit_text (exits.Code z) ++ codes "\n"
 code_joined z = simp append_assoc
 
-abbrev pub failed_front : List ℕ → List ℕ → List ℕ
-failed_front id name = codes "failed " ++ (id ++ (codes " " ++ (name ++ (codes " bootstrap " ++ []))))
+abbrev pub failed_prefix : List ℕ → List ℕ → List ℕ
+failed_prefix id name = codes "failed " ++ (id ++ (codes " " ++ (name ++ (codes " bootstrap " ++ []))))
 
-pub failed_joined : (id name : List ℕ) (e : Exit) → failed_line id name steps.Bootstrap e ≡ failed_front id name ++ (exit_text e ++ codes "\n")
+pub failed_joined : (id name : List ℕ) (e : Exit) → failed_line id name steps.Bootstrap e ≡ failed_prefix id name ++ (exit_text e ++ codes "\n")
 failed_joined id name e = simp append_assoc

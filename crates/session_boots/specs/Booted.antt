@@ -23,21 +23,21 @@ restart_of (exits.Code z) last =
 restart_of e last = None
 
 -- the last of the records is that a bootstrap ended so
-abbrev pub EndsWith : Exit → List Record → Type 0
-EndsWith exit records = (front : List Record) × (name : List ℕ) × (records ≡ front ++ BootEnded name exit ∷ [])
+abbrev pub LastBootEnded : Exit → List Record → Type 0
+LastBootEnded exit records = (prefix : List Record) × (name : List ℕ) × (records ≡ prefix ++ BootEnded name exit ∷ [])
 
 -- the last of the records is an end that asks for this
 abbrev pub AsksFor : Booted → List Record → Device → Type 0
-AsksFor end records d = (exit : Exit) × EndsWith exit records × (restart_of exit (is_none (duty_of d).turn) ≡ Some end)
+AsksFor end records d = (exit : Exit) × LastBootEnded exit records × (restart_of exit (is_none (duty_of d).next_bootstrap) ≡ Some end)
 
 -- how a stage's bootstraps ended, by the records and by what the history left
 abbrev pub BootsLeft : Booted → List Record → SessionState → Device → Components → Told → List ℕ → Type 0
-BootsLeft booted.Through records q d world told living = IsAtBootStage q d world told living × ((duty_of d).turn ≡ None) × (has_failed d ≡ false)
+BootsLeft booted.Through records q d world told living = IsAtBootStage q d world told living × ((duty_of d).next_bootstrap ≡ None) × (has_failed d ≡ false)
 BootsLeft booted.Failed records q d world told living = IsAtBootStage q d world told living × (has_failed d ≡ true)
 BootsLeft booted.Restart records q d world told living = IsBetween q d world told living × (q.over ≡ true) × AsksFor booted.Restart records d
 BootsLeft booted.Reboot records q d world told living = IsBetween q d world told living × (q.over ≡ true) × AsksFor booted.Reboot records d
 
 -- The run of one bootstrap left it so: its end is recorded, and the call is over where that end asks for it.
 abbrev pub BootTurnLeft : Exit → List Record → SessionState → Device → Components → Told → List ℕ → Type 0
-BootTurnLeft exit records q d world told living = IsBetween q d world told living × (q.over ≡ is_some (restart_of exit (is_none (duty_of d).turn))) ×
-    EndsWith exit records
+BootTurnLeft exit records q d world told living = IsBetween q d world told living × (q.over ≡ is_some (restart_of exit (is_none (duty_of d).next_bootstrap))) ×
+    LastBootEnded exit records

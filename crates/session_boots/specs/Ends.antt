@@ -20,15 +20,15 @@ abbrev pub IsOne : List Record → Type 0
 IsOne records = (r : Record) × (records ≡ r ∷ [])
 
 -- The lines of the records are written. Where the disk failed it was at the last of them, whose line is not written; where a
--- line was not written there is a front of them.
+-- line was not written there is a prefix of them.
 abbrev pub LinesAt : Option (List ℕ) → Option (List ℕ) → Device → List Record → SessionFault → Type 0
-LinesAt old new d records over.Disk = (told : List Record) × (last : Record) × (records ≡ told ++ last ∷ []) × Appends old new (lines_of d told)
+LinesAt old new d records over.Disk = (printed : List Record) × (last : Record) × (records ≡ printed ++ last ∷ []) × Appends old new (lines_of d printed)
 LinesAt old new d records over.Output = AppendsPrefix old new (lines_of d records)
 
 -- where the session goes on, all of them are
-abbrev pub Lines : {A : Type 0} → Option (List ℕ) → Option (List ℕ) → Device → List Record → Result A SessionFault → Type 0
-Lines old new d records (Ok x) = Appends old new (lines_of d records)
-Lines old new d records (Err e) = LinesAt old new d records e
+abbrev pub HasLines : {A : Type 0} → Option (List ℕ) → Option (List ℕ) → Device → List Record → Result A SessionFault → Type 0
+HasLines old new d records (Ok x) = Appends old new (lines_of d records)
+HasLines old new d records (Err e) = LinesAt old new d records e
 
 -- Behind the last record, which may not be stable, nothing is done but that children are killed and a moment is asked for.
 pub record StopsAt (h : List TraceEvent) : Type 0 where
@@ -46,7 +46,7 @@ LeftAt entries may_leave disk p h over.Output = StopsAt h × ((state_after p h).
     ((c : Image) → may_leave disk c → StandsFor entries c (state_after p h).device)
 
 -- where the session goes on, the value is where the history leaves it
-abbrev pub Left : {A D : Type 0} → (Image → List (List ℕ) → Type 0) → (D → Image → Type 0) → D → SessionState → List TraceEvent →
+abbrev pub ResultLeft : {A D : Type 0} → (Image → List (List ℕ) → Type 0) → (D → Image → Type 0) → D → SessionState → List TraceEvent →
     (A → SessionState → Type 0) → Result A SessionFault → Type 0
-Left entries may_leave disk p h is (Ok x) = is x (state_after p h)
-Left entries may_leave disk p h is (Err e) = LeftAt entries may_leave disk p h e
+ResultLeft entries may_leave disk p h is (Ok x) = is x (state_after p h)
+ResultLeft entries may_leave disk p h is (Err e) = LeftAt entries may_leave disk p h e

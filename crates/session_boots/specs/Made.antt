@@ -43,9 +43,9 @@ abbrev pub AreStageBoots : Device → List Prepared → Type 0
 AreStageBoots d made = IfSome d.pending (λ q. AreMadeFor d q made)
 
 -- this bootstrap step comes next, and no one before it failed
-pub record IsTurn (d : Device) (made : Prepared) : Type 0 where
+pub record IsNextBoot (d : Device) (made : Prepared) : Type 0 where
   pub origin : Origin
   pub of_device : d.origin ≡ Some origin
   pub name : List ℕ
-  pub turn : (duty_of d).turn ≡ Some name
+  pub next : (duty_of d).next_bootstrap ≡ Some name
   pub of : IsBootOf origin (duty_of d).boots name made

@@ -8,7 +8,7 @@ use Rattle.step_runner.specs.declared.entries.RunnerEntry.{RunnerEntry}
 use Rattle.step_runner.specs.declared.runner.Runner as a_runner
 use Rattle.histories.specs.TraceEvents.{TraceEvent, records_of}
 use Rattle.histories.specs.States.{SessionState, state_after}
-use Rattle.session_boots.specs.Ends.{Left, Lines}
+use Rattle.session_boots.specs.Ends.{ResultLeft, HasLines}
 use Rattle.session_boots.specs.Traces.{IsTrace}
 use Rattle.session_boots.specs.declared.ends.SessionFault.{SessionFault}
 
@@ -23,7 +23,7 @@ module _ {D J : Type 0} (disk : a_disk.Ghosts D) (journal : a_journal.Ghosts J) 
 
   -- what it leaves
   abbrev pub LeftOver : {A : Type 0} → D → SessionState → List TraceEvent → (A → SessionState → Type 0) → Result A SessionFault → Type 0
-  LeftOver e p h is result = Left journal.entries disk.may_leave e p h is result
+  LeftOver e p h is result = ResultLeft journal.entries disk.may_leave e p h is result
 
 module _ {D J K R : Type 0} (disk : a_disk.Ghosts D) (journal : a_journal.Ghosts J) (sink : a_sink.Ghosts K) (runner : a_runner.Ghosts R) where
   -- From a state of the session on there is a trace that all four show. Where the call goes on its value is where the trace
@@ -32,6 +32,6 @@ module _ {D J K R : Type 0} (disk : a_disk.Ghosts D) (journal : a_journal.Ghosts
       Result A SessionFault → Type 0
   HasTrace d e k l r s p is stops result = (h : List TraceEvent)
       × IsTrace journal.entries journal.files disk.may_leave disk.moment disk.left_since d e (runner.list r) (runner.list s) p h
-      × Lines (sink.held k) (sink.held l) p.device (records_of h) result
-      × Left journal.entries disk.may_leave e p h (λ x q. is x h q) result
+      × HasLines (sink.held k) (sink.held l) p.device (records_of h) result
+      × ResultLeft journal.entries disk.may_leave e p h (λ x q. is x h q) result
       × OnErr result (stops (state_after p h))

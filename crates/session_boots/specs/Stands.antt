@@ -6,7 +6,7 @@ use Rattle.components.specs.Components.{Components, is_stopped}
 use Rattle.components.specs.Turns.{IsQuiet}
 use Rattle.histories.specs.Phases.{Generation, previous, draining}
 use Rattle.histories.specs.States.{SessionState}
-use Rattle.histories.specs.Courses.{Stands}
+use Rattle.histories.specs.Courses.{IsStateOf}
 
 -- ---- where a stage begins
 
@@ -16,7 +16,7 @@ generation_of w = if is_stopped w then draining else previous
 
 -- The stage begins, and nothing of it was done. Whether or not components stand, none may act.
 pub record IsOpened (p : SessionState) (d : Device) (world : Components) (told : Told) (living : List ℕ) : Type 0 where
-  pub stands : Stands p d world told living
+  pub stands : IsStateOf p d world told living
   pub quiet : IsQuiet p.world
   pub generation : p.generation ≡ generation_of p.world
   pub boot : p.boot ≡ None
@@ -36,7 +36,7 @@ pub record IsStill (p : SessionState) : Type 0 where
 
 -- No bootstrap lives, and every end is recorded.
 pub record IsBetween (p : SessionState) (d : Device) (world : Components) (told : Told) (living : List ℕ) : Type 0 where
-  pub stands : Stands p d world told living
+  pub stands : IsStateOf p d world told living
   pub still : IsStill p
   pub boot : p.boot ≡ None
   pub boot_end : p.boot_end ≡ None

@@ -14,7 +14,7 @@ use Rattle.components.specs.declared.kinds.Prepared.{Prepared}
 use Rattle.histories.specs.Phases.{duty_of, has_boots}
 use Rattle.histories.specs.States.{SessionState}
 use Rattle.histories.specs.Follows.{MayBoot}
-use Rattle.histories.specs.Courses.{Stands}
+use Rattle.histories.specs.Courses.{IsStateOf}
 use Rattle.session_boots.specs.Stands.{IsStill}
 
 -- what is seen of a probe
@@ -30,8 +30,8 @@ pub record MayStep (p : SessionState) (made : Prepared) (told : Told) : Type 0 w
   pub over : p.over ≡ false
   pub moment : p.world.moment ≡ told.moment
 
--- the runner tells of the place, and a moment was asked for where one is due
-pub record IsTold (p : SessionState) (told : Told) : Type 0 where
+-- the runner tells of the state, and a moment was asked for where one is due
+pub record IsUpToDate (p : SessionState) (told : Told) : Type 0 where
   pub moment : told.moment ≡ p.world.moment
   pub asked : told.asked ≡ p.fresh
   pub due : p.due ≡ true → p.fresh ≡ true
@@ -43,14 +43,14 @@ pub record MayProbe (p : SessionState) (made : Prepared) (told : Told) : Type 0 
   pub may : MayBoot (duty_of p.device) p made
   pub still : IsStill p
   pub probed : p.probed ≡ false
-  pub is_told : IsTold p told
+  pub up_to_date : IsUpToDate p told
 
 -- it needs no probe, or was probed and is not to be skipped
 pub record MayStart (p : SessionState) (made : Prepared) (told : Told) : Type 0 where
   pub may : MayBoot (duty_of p.device) p made
   pub still : IsStill p
   pub asked : (made.skip ≡ None) ⊎ (p.probed ≡ true)
-  pub is_told : IsTold p told
+  pub up_to_date : IsUpToDate p told
 
 -- it lives, until this deadline at most
 pub record IsAlive (p : SessionState) (child deadline : ℕ) (told : Told) : Type 0 where
@@ -58,7 +58,7 @@ pub record IsAlive (p : SessionState) (child deadline : ℕ) (told : Told) : Typ
   pub boot : p.boot ≡ Some (record { number = child; of = step.Bootstrap; deadline = Some deadline })
   pub no_end : p.boot_end ≡ None
   pub still : IsStill p
-  pub is_told : IsTold p told
+  pub up_to_date : IsUpToDate p told
 
 -- from p on it ended so, which is still to be recorded
 pub record IsEnded (p q : SessionState) (exit : Exit) (told : Told) : Type 0 where
@@ -74,11 +74,11 @@ pub record IsEnded (p q : SessionState) (exit : Exit) (told : Told) : Type 0 whe
 pub record IsProbed (p q : SessionState) (told : Told) : Type 0 where
   pub world : q.world ≡ p.world
   pub generation : q.generation ≡ p.generation
-  pub is_told : IsTold q told
+  pub up_to_date : IsUpToDate q told
 
 -- The end of the bootstrap is there, and is to be recorded next.
 pub record HasEnd (p : SessionState) (d : Device) (exit : Exit) (world : Components) (told : Told) (living : List ℕ) : Type 0 where
-  pub stands : Stands p d world told living
+  pub stands : IsStateOf p d world told living
   pub still : IsStill p
   pub boot : p.boot ≡ None
   pub boot_end : p.boot_end ≡ Some exit

@@ -7,17 +7,17 @@ use Rattle.device.specs.Devices.{Device}
 use Rattle.device.specs.Lawful.{applied, boots_of}
 use Rattle.histories.specs.Phases.{duty_of}
 
--- the one whose turn it is begins; where it was begun before, nothing changes
-abbrev pub Begins : Device → Device → Type 0
-Begins d e = (name : List ℕ) × ((duty_of d).turn ≡ Some name) × (e ≡ applied d (BootBegun name))
+-- the one that is next begins; where it was begun before, nothing changes
+abbrev pub DeviceAfterBegin : Device → Device → Type 0
+DeviceAfterBegin d e = (name : List ℕ) × ((duty_of d).next_bootstrap ≡ Some name) × (e ≡ applied d (BootBegun name))
 
--- the one whose turn it is ends so
-abbrev pub Ends : Device → Exit → Device → Type 0
-Ends d exit e = (name : List ℕ) × ((duty_of d).turn ≡ Some name) × (e ≡ applied d (BootEnded name exit))
+-- the one that is next ends so
+abbrev pub DeviceAfterEnd : Device → Exit → Device → Type 0
+DeviceAfterEnd d exit e = (name : List ℕ) × ((duty_of d).next_bootstrap ≡ Some name) × (e ≡ applied d (BootEnded name exit))
 
 -- it begins and ends
-abbrev pub Turns : Device → Exit → Device → Type 0
-Turns d exit e = (begun : Device) × Begins d begun × Ends begun exit e
+abbrev pub DeviceAfterBoot : Device → Exit → Device → Type 0
+DeviceAfterBoot d exit e = (begun : Device) × DeviceAfterBegin d begun × DeviceAfterEnd begun exit e
 
 -- so many steps are left at most; none is after one that failed
 abbrev pub steps_left : Device → ℕ

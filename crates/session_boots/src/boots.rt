@@ -8,10 +8,10 @@ ghost use Rattle.histories.specs.TraceEvents.{records_of};
 ghost use Rattle.histories.specs.Phases.{duty_of};
 ghost use Rattle.histories.specs.States.{SessionState};
 ghost use Rattle.session_boots.specs.Booted.{BootsLeft, restart_of};
-ghost use Rattle.session_boots.specs.Made.{AreMade, AreMadeAgain, AreStageBoots, IsTurn};
+ghost use Rattle.session_boots.specs.Made.{AreMade, AreMadeAgain, AreStageBoots, IsNextBoot};
 ghost use Rattle.session_boots.specs.Staged.{OwnsStage};
 ghost use Rattle.session_boots.specs.Stands.{IsAtBootStage};
-ghost use Rattle.deploy_state.specs.Objects.{Holds, KeepsOthers};
+ghost use Rattle.deploy_state.specs.Objects.{OwnsOver, KeepsOthers};
 ghost use Rattle.session_boots.specs.Stages.{AsTold, HasTrace};
 
 use crate::ends::{Booted, SessionFault};
@@ -28,7 +28,7 @@ use step_runner::Runner;
 /// Whether no bootstrap step comes next.
 fn is_through<S: BootStage<J>, J: Journal + Drop>(state: &S) -> bool
     requires { S.is_staged state.now }
-    ensures { result ≡ is_none (duty_of (device_of (S.hand state.now))).turn }
+    ensures { result ≡ is_none (duty_of (device_of (S.hand state.now))).next_bootstrap }
 {
     state.failed() || state.next().is_none()
 }
@@ -43,15 +43,15 @@ fn step_at(made: &[Prepared], at: u32) -> Option<&Prepared>
     }
 }
 
-/// The bootstrap step whose turn it is.
+/// The bootstrap step that is next.
 fn next_step<'a, S: BootStage<J>, J: Journal + Drop>(
     state: &S,
     made: &'a [Prepared],
 ) -> Option<&'a Prepared>
     requires staged { S.is_staged state.now }
     requires made { AreStageBoots (device_of (S.hand state.now)) made.now }
-    ensures turn { IfSome result (λ step. IsTurn (device_of (S.hand state.now)) step.now) }
-    ensures none { result ≡ None → (duty_of (device_of (S.hand state.now))).turn ≡ None }
+    ensures next { IfSome result (λ step. IsNextBoot (device_of (S.hand state.now)) step.now) }
+    ensures none { result ≡ None → (duty_of (device_of (S.hand state.now))).next_bootstrap ≡ None }
 {
     if is_through(state) {
         return None;
@@ -89,16 +89,16 @@ fn run_stage<S: BootStage<J>, D: Disk, J: Journal + Drop, K: Sink, R: Runner>(
     sink: &mut K,
     runner: &mut R,
 ) -> Result<(S, Booted), SessionFault>
-    requires held { Holds D.Disk J.Journal (OwnsStage S.hand S.is_staged) state disk.old }
+    requires held { OwnsOver D.Disk J.Journal (OwnsStage S.hand S.is_staged) state disk.old }
     requires made { AreStageBoots (device_of (S.hand state)) made.now }
-    requires placed { (p : SessionState) × (world : Components) × AsTold R.Runner runner.old (IsAtBootStage p (device_of (S.hand state)) world) }
+    requires from_state { (p : SessionState) × (world : Components) × AsTold R.Runner runner.old (IsAtBootStage p (device_of (S.hand state)) world) }
     // Where it gives up, no child lives.
     ensures trace { (p : SessionState) → (world : Components) → AsTold R.Runner runner.old (IsAtBootStage p (device_of (S.hand state)) world) →
         HasTrace D.Disk J.Journal K.Sink R.Runner disk.old disk.new sink.old sink.new runner.old runner.new p
         (λ x h q. AsTold R.Runner runner.new (BootsLeft x.1 (records_of h) q (device_of (S.hand x.0)) world))
         IsBare result }
     ensures none { R.living runner.new ≡ [] }
-    ensures held { IfOk result (λ x. Holds D.Disk J.Journal (OwnsStage S.hand S.is_staged) x.0 disk.new) }
+    ensures held { IfOk result (λ x. OwnsOver D.Disk J.Journal (OwnsStage S.hand S.is_staged) x.0 disk.new) }
     ensures others { KeepsOthers D.Disk J.Journal disk.old disk.new }
     ensures disk { IsErrOf result SessionFault.Disk → Rose (D.faults disk.old) (D.faults disk.new) }
     ensures edge { IsErrOf result SessionFault.Output → Rose (K.faults sink.old) (K.faults sink.new) }
@@ -131,16 +131,16 @@ pub fn run_boots<D: Disk, J: Journal + Drop, K: Sink, R: Runner>(
     sink: &mut K,
     runner: &mut R,
 ) -> Result<(Booting<J>, Booted), SessionFault>
-    requires held { Holds D.Disk J.Journal OwnsBooting state disk.old }
+    requires held { OwnsOver D.Disk J.Journal OwnsBooting state disk.old }
     requires made { AreMade (booting_device state) made.now }
-    requires placed { (p : SessionState) × (world : Components) × AsTold R.Runner runner.old (IsAtBootStage p (booting_device state) world) }
+    requires from_state { (p : SessionState) × (world : Components) × AsTold R.Runner runner.old (IsAtBootStage p (booting_device state) world) }
     // Where it gives up, no child lives.
     ensures trace { (p : SessionState) → (world : Components) → AsTold R.Runner runner.old (IsAtBootStage p (booting_device state) world) →
         HasTrace D.Disk J.Journal K.Sink R.Runner disk.old disk.new sink.old sink.new runner.old runner.new p
         (λ x h q. AsTold R.Runner runner.new (BootsLeft x.1 (records_of h) q (booting_device x.0) world))
         IsBare result }
     ensures none { R.living runner.new ≡ [] }
-    ensures held { IfOk result (λ x. Holds D.Disk J.Journal OwnsBooting x.0 disk.new) }
+    ensures held { IfOk result (λ x. OwnsOver D.Disk J.Journal OwnsBooting x.0 disk.new) }
     ensures others { KeepsOthers D.Disk J.Journal disk.old disk.new }
     ensures disk { IsErrOf result SessionFault.Disk → Rose (D.faults disk.old) (D.faults disk.new) }
     ensures edge { IsErrOf result SessionFault.Output → Rose (K.faults sink.old) (K.faults sink.new) }
@@ -160,16 +160,16 @@ pub fn run_rollback_boots<D: Disk, J: Journal + Drop, K: Sink, R: Runner>(
     sink: &mut K,
     runner: &mut R,
 ) -> Result<(Backed<J>, Booted), SessionFault>
-    requires held { Holds D.Disk J.Journal OwnsBacking state disk.old }
+    requires held { OwnsOver D.Disk J.Journal OwnsBacking state disk.old }
     requires made { AreMadeAgain (backing_device state) made.now }
-    requires placed { (p : SessionState) × (world : Components) × AsTold R.Runner runner.old (IsAtBootStage p (backing_device state) world) }
+    requires from_state { (p : SessionState) × (world : Components) × AsTold R.Runner runner.old (IsAtBootStage p (backing_device state) world) }
     // Where it gives up, no child lives.
     ensures trace { (p : SessionState) → (world : Components) → AsTold R.Runner runner.old (IsAtBootStage p (backing_device state) world) →
         HasTrace D.Disk J.Journal K.Sink R.Runner disk.old disk.new sink.old sink.new runner.old runner.new p
         (λ x h q. AsTold R.Runner runner.new (BootsLeft x.1 (records_of h) q (backed_device x.0) world))
         IsBare result }
     ensures none { R.living runner.new ≡ [] }
-    ensures held { IfOk result (λ x. Holds D.Disk J.Journal OwnsBacked x.0 disk.new) }
+    ensures held { IfOk result (λ x. OwnsOver D.Disk J.Journal OwnsBacked x.0 disk.new) }
     ensures others { KeepsOthers D.Disk J.Journal disk.old disk.new }
     ensures disk { IsErrOf result SessionFault.Disk → Rose (D.faults disk.old) (D.faults disk.new) }
     ensures edge { IsErrOf result SessionFault.Output → Rose (K.faults sink.old) (K.faults sink.new) }

@@ -2,7 +2,7 @@
 ghost use Rattle.std.specs.Prelude.{◌≡◌, ◌++◌, OnOk, codes};
 ghost use Rattle.nuc_base.specs.Faults.{HasCause};
 ghost use Rattle.nuc_base.specs.declared.kinds.Step.TheVariants as kinds;
-ghost use Rattle.edges.specs.Pieces.{Writes};
+ghost use Rattle.edges.specs.Pieces.{WriteOutcome};
 ghost use Rattle.deploy_state.specs.Accepting.{receipt_id};
 ghost use Rattle.session_boots.specs.Lines.{accepted_line, exit_text, failed_line};
 
@@ -13,7 +13,7 @@ use nuc_base::{Exit, Label, Name};
 
 /// Prints that a deployment was accepted.
 pub fn acknowledge<K: Sink>(sink: &mut K, receipt: &Receipt) -> Result<(), EdgeFault>
-    ensures line { Writes (K.held sink.old) (K.held sink.new) (accepted_line (receipt_id receipt.now)) result }
+    ensures line { WriteOutcome (K.held sink.old) (K.held sink.new) (accepted_line (receipt_id receipt.now)) result }
     ensures cause { HasCause (K.faults sink.old) (K.faults sink.new) result }
     ensures quiet { OnOk result (K.faults sink.new ≡ K.faults sink.old) }
 {
@@ -22,7 +22,7 @@ pub fn acknowledge<K: Sink>(sink: &mut K, receipt: &Receipt) -> Result<(), EdgeF
 
 /// Prints how a step ended, and the line's end.
 pub fn tell_exit<K: Sink>(sink: &mut K, exit: Exit) -> Result<(), EdgeFault>
-    ensures line { Writes (K.held sink.old) (K.held sink.new) (exit_text exit ++ codes "\n") result }
+    ensures line { WriteOutcome (K.held sink.old) (K.held sink.new) (exit_text exit ++ codes "\n") result }
     ensures cause { HasCause (K.faults sink.old) (K.faults sink.new) result }
     ensures quiet { OnOk result (K.faults sink.new ≡ K.faults sink.old) }
 {
@@ -45,7 +45,7 @@ pub(crate) fn tell_failed_boot<K: Sink>(
     name: &Name,
     exit: Exit,
 ) -> Result<(), EdgeFault>
-    ensures line { Writes (K.held sink.old) (K.held sink.new) (failed_line id.now name.now kinds.Bootstrap exit) result }
+    ensures line { WriteOutcome (K.held sink.old) (K.held sink.new) (failed_line id.now name.now kinds.Bootstrap exit) result }
     ensures cause { HasCause (K.faults sink.old) (K.faults sink.new) result }
     ensures quiet { OnOk result (K.faults sink.new ≡ K.faults sink.old) }
 {

@@ -1,13 +1,13 @@
 //! The states of a deployment in which bootstrap steps run.
 ghost use Rattle.std.specs.Prelude.{◌≡◌, OnOk, IfOk, IsOkAnd, option_map};
 ghost use Rattle.nuc_base.specs.Faults.{HasCause};
-ghost use Rattle.disk_model.specs.Disk.{Leaves};
+ghost use Rattle.disk_model.specs.Disk.{HasLeft};
 ghost use Rattle.records.specs.Stored.{Record};
 ghost use Rattle.device.specs.Devices.{device_view};
 ghost use Rattle.device.specs.Lawful.{applied};
 ghost use Rattle.device.specs.Marks.{IsMark};
 ghost use Rattle.device.specs.declared.mark.Mark.TheVariants as marks;
-ghost use Rattle.deploy_state.specs.Objects.{Holds, KeepsOthers};
+ghost use Rattle.deploy_state.specs.Objects.{OwnsOver, KeepsOthers};
 ghost use Rattle.deploy_state.specs.Fields.{CanBegin, IsBegun, has_failed, next_name};
 ghost use Rattle.deploy_state.specs.Owned.{LeavesEither, MayMark};
 ghost use Rattle.deploy_state.specs.States.{device_of};
@@ -43,14 +43,14 @@ pub(crate) trait BootStage<J: Journal + Drop>: Drop + Sized {
 
     /// Records that the next bootstrap step begins, unless that is recorded.
     fn begin<D: Disk>(self, disk: &mut D) -> Result<Self, Stopped<J>>
-        requires held { Holds D.Disk J.Journal (OwnsStage hand is_staged) self disk.old }
+        requires held { OwnsOver D.Disk J.Journal (OwnsStage hand is_staged) self disk.old }
         requires may { CanBegin (device_of (hand self)) }
         ensures moments { (r : Record) → IsMark (device_of (hand self)) marks.BootBegun r →
-            Leaves D.moment D.left_since disk.old disk.new (LeavesEither D.may_leave J.files J.entries disk.old (device_of (hand self))
+            HasLeft D.moment D.left_since disk.old disk.new (LeavesEither D.may_leave J.files J.entries disk.old (device_of (hand self))
             (applied (device_of (hand self)) r)) }
         ensures taken { (r : Record) → IsMark (device_of (hand self)) marks.BootBegun r →
             IfOk result (λ s. device_of (hand s) ≡ applied (device_of (hand self)) r) }
-        ensures held { IfOk result (λ s. Holds D.Disk J.Journal (OwnsStage hand is_staged) s disk.new) }
+        ensures held { IfOk result (λ s. OwnsOver D.Disk J.Journal (OwnsStage hand is_staged) s disk.new) }
         ensures silent { IsBegun (device_of (hand self)) → (disk.new ≡ disk.old) × IsOkAnd result (λ s. s ≡ self) }
         ensures others { KeepsOthers D.Disk J.Journal disk.old disk.new }
         ensures cause { HasCause (D.faults disk.old) (D.faults disk.new) result }
@@ -58,14 +58,14 @@ pub(crate) trait BootStage<J: Journal + Drop>: Drop + Sized {
 
     /// Records how the bootstrap step that was begun ended.
     fn ended<D: Disk>(self, disk: &mut D, exit: Exit) -> Result<Self, Stopped<J>>
-        requires held { Holds D.Disk J.Journal (OwnsStage hand is_staged) self disk.old }
+        requires held { OwnsOver D.Disk J.Journal (OwnsStage hand is_staged) self disk.old }
         requires may { MayMark (device_of (hand self)) (marks.BootEnded exit) }
         ensures moments { (r : Record) → IsMark (device_of (hand self)) (marks.BootEnded exit) r →
-            Leaves D.moment D.left_since disk.old disk.new (LeavesEither D.may_leave J.files J.entries disk.old (device_of (hand self))
+            HasLeft D.moment D.left_since disk.old disk.new (LeavesEither D.may_leave J.files J.entries disk.old (device_of (hand self))
             (applied (device_of (hand self)) r)) }
         ensures taken { (r : Record) → IsMark (device_of (hand self)) (marks.BootEnded exit) r →
             IfOk result (λ s. device_of (hand s) ≡ applied (device_of (hand self)) r) }
-        ensures held { IfOk result (λ s. Holds D.Disk J.Journal (OwnsStage hand is_staged) s disk.new) }
+        ensures held { IfOk result (λ s. OwnsOver D.Disk J.Journal (OwnsStage hand is_staged) s disk.new) }
         ensures others { KeepsOthers D.Disk J.Journal disk.old disk.new }
         ensures cause { HasCause (D.faults disk.old) (D.faults disk.new) result }
         ensures quiet { OnOk result (D.faults disk.new ≡ D.faults disk.old) };

@@ -1,7 +1,7 @@
 // The run of one bootstrap step, from its probe to its end.
 ghost use Rattle.std.specs.Prelude.{◌≡◌, ◌≤◌, ◌+◌, ◌-◌, ◌<◌, ◌^◌, [], ◌∷◌, ℕ, List, true, false, pos, Some};
 ghost use Rattle.std.specs.Option.{IsSomeAnd};
-ghost use Rattle.step_runner.specs.Entries.{Listed, Notes};
+ghost use Rattle.step_runner.specs.Entries.{Listed, HasNoted};
 ghost use Rattle.components.specs.Deadlines.{deadline_after};
 ghost use Rattle.components.specs.declared.kinds.Prepared.{Prepared as PreparedStep};
 ghost use Rattle.histories.specs.TraceEvents.{TraceEvent};
@@ -9,7 +9,7 @@ ghost use Rattle.histories.specs.States.{SessionState, state_after};
 ghost use Rattle.histories.specs.Phases.{duty_of};
 ghost use Rattle.histories.specs.Follows.{MayBoot};
 ghost use Rattle.session_boots.specs.Steps.{IsAlive, IsEnded, IsProbed, MayProbe, MayStart, MayStep, probe_seen};
-ghost use Rattle.session_boots.specs.Traces.{Acts};
+ghost use Rattle.session_boots.specs.Traces.{ActTrace};
 
 use components::Prepared;
 use nuc_base::Exit;
@@ -18,7 +18,7 @@ use step_runner::{Runner, Waited};
 
 /// What the probe says, which is asked once.
 pub fn probes<R: Runner>(runner: &mut R, skip: &Skip) -> bool
-    ensures notes { Notes (Listed R.list R.told R.asked runner.old) (Listed R.list R.told R.asked runner.new) (probe_seen skip.now result) }
+    ensures notes { HasNoted (Listed R.list R.told R.asked runner.old) (Listed R.list R.told R.asked runner.new) (probe_seen skip.now result) }
     ensures lives { R.living runner.new ≡ R.living runner.old }
 {
     match skip {
@@ -30,13 +30,13 @@ pub fn probes<R: Runner>(runner: &mut R, skip: &Skip) -> bool
 /// Whether the step is to be skipped, which its probe says.
 fn is_skipped<R: Runner>(runner: &mut R, step: &Prepared) -> bool
     ensures skipped { result ≡ true → (p : SessionState) → MayProbe p step.now (Listed R.list R.told R.asked runner.old) →
-        (h : List TraceEvent) × Acts p h (R.list runner.old) (R.list runner.new)
+        (h : List TraceEvent) × ActTrace p h (R.list runner.old) (R.list runner.new)
         × IsEnded p (state_after p h) (Exit.Code (pos 0)) (Listed R.list R.told R.asked runner.new) }
     ensures starts { result ≡ false → (p : SessionState) → MayProbe p step.now (Listed R.list R.told R.asked runner.old) →
-        (h : List TraceEvent) × Acts p h (R.list runner.old) (R.list runner.new)
+        (h : List TraceEvent) × ActTrace p h (R.list runner.old) (R.list runner.new)
         × MayStart (state_after p h) step.now (Listed R.list R.told R.asked runner.new) ×
         IsProbed p (state_after p h) (Listed R.list R.told R.asked runner.new) }
-    ensures told { R.told runner.new ≡ R.told runner.old }
+    ensures moment { R.told runner.new ≡ R.told runner.old }
     ensures lives { R.living runner.new ≡ R.living runner.old }
 {
     match &step.skip {
@@ -52,7 +52,7 @@ fn await_end<R: Runner>(runner: &mut R, child: u64, deadline: u64, now: u64) -> 
     requires near { deadline ≤ now + 1000000000 }
     requires in_time { deadline < 2 ^ 62 }
     ensures trace { (p : SessionState) → (made : PreparedStep) → IsAlive p child deadline (Listed R.list R.told R.asked runner.old) →
-        (h : List TraceEvent) × Acts p h (R.list runner.old) (R.list runner.new) ×
+        (h : List TraceEvent) × ActTrace p h (R.list runner.old) (R.list runner.new) ×
         IsEnded p (state_after p h) result (Listed R.list R.told R.asked runner.new) }
     ensures none { R.living runner.new ≡ [] }
     ensures later { R.told runner.old ≤ R.told runner.new }
@@ -92,7 +92,7 @@ pub fn run_step<R: Runner>(runner: &mut R, step: &Prepared) -> Exit
     requires none { R.living runner.old ≡ [] }
     requires limit { IsSomeAnd step.now.limit_ms (λ l. l ≤ 1000000000) }
     ensures trace { (p : SessionState) → MayStep p step.now (Listed R.list R.told R.asked runner.old) →
-        (h : List TraceEvent) × Acts p h (R.list runner.old) (R.list runner.new) ×
+        (h : List TraceEvent) × ActTrace p h (R.list runner.old) (R.list runner.new) ×
         IsEnded p (state_after p h) result (Listed R.list R.told R.asked runner.new) }
     ensures none { R.living runner.new ≡ [] }
     ensures later { R.told runner.old ≤ R.told runner.new }

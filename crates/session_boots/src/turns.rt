@@ -4,7 +4,7 @@ ghost use Rattle.nuc_base.specs.Faults.{HasCause, Rose};
 ghost use Rattle.device.specs.Lawful.{goes_on};
 ghost use Rattle.deploy_state.specs.Fields.{CanBegin, next_name};
 ghost use Rattle.deploy_state.specs.States.{device_of};
-ghost use Rattle.edges.specs.Pieces.{Writes};
+ghost use Rattle.edges.specs.Pieces.{WriteOutcome};
 ghost use Rattle.records.specs.Stored.{BootEnded};
 ghost use Rattle.step_runner.specs.Entries.{Told};
 ghost use Rattle.components.specs.Components.{Components};
@@ -14,13 +14,13 @@ ghost use Rattle.histories.specs.Phases.{duty_of};
 ghost use Rattle.histories.specs.States.{SessionState, state_after};
 ghost use Rattle.session_boots.specs.Booted.{BootTurnLeft};
 ghost use Rattle.session_boots.specs.Lines.{line_of, lines_of};
-ghost use Rattle.session_boots.specs.Made.{IsTurn};
+ghost use Rattle.session_boots.specs.Made.{IsNextBoot};
 ghost use Rattle.session_boots.specs.Staged.{OwnsStage};
-ghost use Rattle.session_boots.specs.Ends.{IsOne, Lines};
+ghost use Rattle.session_boots.specs.Ends.{IsOne, HasLines};
 ghost use Rattle.session_boots.specs.Stands.{IsAtBootStage};
 ghost use Rattle.session_boots.specs.Steps.{HasEnd};
-ghost use Rattle.session_boots.specs.Turns.{Begins, Ends, Turns};
-ghost use Rattle.deploy_state.specs.Objects.{Holds, KeepsOthers};
+ghost use Rattle.session_boots.specs.Turns.{DeviceAfterBegin, DeviceAfterEnd, DeviceAfterBoot};
+ghost use Rattle.deploy_state.specs.Objects.{OwnsOver, KeepsOthers};
 ghost use Rattle.session_boots.specs.Stages.{AsTold, HasTrace, IsTraceOver, LeftOver};
 
 use crate::ends::SessionFault;
@@ -35,12 +35,12 @@ use nuc_base::Exit;
 use recipe_reader::recipe_laws;
 use step_runner::Runner;
 
-/// Records that the step begins whose turn it is.
+/// Records that the step begins that is next.
 fn begin<S: BootStage<J>, D: Disk, J: Journal + Drop>(
     state: S,
     disk: &mut D,
 ) -> Result<S, SessionFault>
-    requires held { Holds D.Disk J.Journal (OwnsStage S.hand S.is_staged) state disk.old }
+    requires held { OwnsOver D.Disk J.Journal (OwnsStage S.hand S.is_staged) state disk.old }
     requires may { CanBegin (device_of (S.hand state)) }
     // Where it gives up, no child lives.
     ensures trace { (p : SessionState) → (world : Components) → (told : Told) → (living : List ℕ) →
@@ -49,8 +49,8 @@ fn begin<S: BootStage<J>, D: Disk, J: Journal + Drop>(
         × (lines_of p.device (records_of h) ≡ [])
         × LeftOver D.Disk J.Journal disk.new p h (λ s q. IsAtBootStage q (device_of (S.hand s)) world told living) result
         × OnErr result (IsBare (state_after p h)) × OnErr result (IsOne (records_of h)) }
-    ensures begins { IfOk result (λ s. Begins (device_of (S.hand state)) (device_of (S.hand s))) }
-    ensures held { IfOk result (λ s. Holds D.Disk J.Journal (OwnsStage S.hand S.is_staged) s disk.new) }
+    ensures begins { IfOk result (λ s. DeviceAfterBegin (device_of (S.hand state)) (device_of (S.hand s))) }
+    ensures held { IfOk result (λ s. OwnsOver D.Disk J.Journal (OwnsStage S.hand S.is_staged) s disk.new) }
     ensures others { KeepsOthers D.Disk J.Journal disk.old disk.new }
     ensures disk { IsErrOf result SessionFault.Disk → Rose (D.faults disk.old) (D.faults disk.new) }
     ensures edge { IsErrOf result SessionFault.Output → ⊥ }
@@ -81,7 +81,7 @@ fn tell_end<S: BootStage<J>, J: Journal + Drop, K: Sink>(
 ) -> Result<(), EdgeFault>
     requires staged { S.is_staged state.now }
     ensures line { (name : List ℕ) → (goes_on exit ≡ false → next_name (device_of (S.hand state.now)) ≡ Some name) →
-        Writes (K.held sink.old) (K.held sink.new) (line_of (device_of (S.hand state.now)) (BootEnded name exit)) result }
+        WriteOutcome (K.held sink.old) (K.held sink.new) (line_of (device_of (S.hand state.now)) (BootEnded name exit)) result }
     ensures cause { HasCause (K.faults sink.old) (K.faults sink.new) result }
     ensures quiet { OnOk result (K.faults sink.new ≡ K.faults sink.old) }
 {
@@ -104,18 +104,18 @@ fn end<S: BootStage<J>, D: Disk, J: Journal + Drop, K: Sink>(
     sink: &mut K,
     exit: Exit,
 ) -> Result<S, SessionFault>
-    requires held { Holds D.Disk J.Journal (OwnsStage S.hand S.is_staged) state disk.old }
-    requires turn { is_some (duty_of (device_of (S.hand state))).turn ≡ true }
+    requires held { OwnsOver D.Disk J.Journal (OwnsStage S.hand S.is_staged) state disk.old }
+    requires next { is_some (duty_of (device_of (S.hand state))).next_bootstrap ≡ true }
     requires begun { (duty_of (device_of (S.hand state))).begun ≡ true }
     // Where it gives up, no child lives.
     ensures trace { (p : SessionState) → (world : Components) → (told : Told) → (living : List ℕ) →
         HasEnd p (device_of (S.hand state)) exit world told living → (h : List TraceEvent)
         × IsTraceOver D.Disk J.Journal disk.old disk.new told.list told.list p h
-        × Lines (K.held sink.old) (K.held sink.new) p.device (records_of h) result
+        × HasLines (K.held sink.old) (K.held sink.new) p.device (records_of h) result
         × LeftOver D.Disk J.Journal disk.new p h (λ s q. BootTurnLeft exit (records_of h) q (device_of (S.hand s)) world told living) result
         × OnErr result (IsBare (state_after p h)) }
-    ensures ends { IfOk result (λ s. Ends (device_of (S.hand state)) exit (device_of (S.hand s))) }
-    ensures held { IfOk result (λ s. Holds D.Disk J.Journal (OwnsStage S.hand S.is_staged) s disk.new) }
+    ensures ends { IfOk result (λ s. DeviceAfterEnd (device_of (S.hand state)) exit (device_of (S.hand s))) }
+    ensures held { IfOk result (λ s. OwnsOver D.Disk J.Journal (OwnsStage S.hand S.is_staged) s disk.new) }
     ensures others { KeepsOthers D.Disk J.Journal disk.old disk.new }
     ensures disk { IsErrOf result SessionFault.Disk → Rose (D.faults disk.old) (D.faults disk.new) }
     ensures edge { IsErrOf result SessionFault.Output → Rose (K.faults sink.old) (K.faults sink.new) }
@@ -135,7 +135,7 @@ fn end<S: BootStage<J>, D: Disk, J: Journal + Drop, K: Sink>(
     }
 }
 
-/// Runs the bootstrap step whose turn it is to its recorded end.
+/// Runs the bootstrap step that is next to its recorded end.
 pub(crate) fn run_turn<S: BootStage<J>, D: Disk, J: Journal + Drop, K: Sink, R: Runner>(
     state: S,
     step: &Prepared,
@@ -143,17 +143,17 @@ pub(crate) fn run_turn<S: BootStage<J>, D: Disk, J: Journal + Drop, K: Sink, R: 
     sink: &mut K,
     runner: &mut R,
 ) -> Result<(S, Exit), SessionFault>
-    requires held { Holds D.Disk J.Journal (OwnsStage S.hand S.is_staged) state disk.old }
-    requires turn { IsTurn (device_of (S.hand state)) step.now }
-    requires placed { (p : SessionState) × (world : Components) × AsTold R.Runner runner.old (IsAtBootStage p (device_of (S.hand state)) world) }
+    requires held { OwnsOver D.Disk J.Journal (OwnsStage S.hand S.is_staged) state disk.old }
+    requires next { IsNextBoot (device_of (S.hand state)) step.now }
+    requires from_state { (p : SessionState) × (world : Components) × AsTold R.Runner runner.old (IsAtBootStage p (device_of (S.hand state)) world) }
     // Where it gives up, no child lives.
     ensures trace { (p : SessionState) → (world : Components) → AsTold R.Runner runner.old (IsAtBootStage p (device_of (S.hand state)) world) →
         HasTrace D.Disk J.Journal K.Sink R.Runner disk.old disk.new sink.old sink.new runner.old runner.new p
         (λ x h q. AsTold R.Runner runner.new (BootTurnLeft x.1 (records_of h) q (device_of (S.hand x.0)) world))
         IsBare result }
     ensures none { R.living runner.new ≡ [] }
-    ensures turns { IfOk result (λ x. Turns (device_of (S.hand state)) x.1 (device_of (S.hand x.0))) }
-    ensures held { IfOk result (λ x. Holds D.Disk J.Journal (OwnsStage S.hand S.is_staged) x.0 disk.new) }
+    ensures turns { IfOk result (λ x. DeviceAfterBoot (device_of (S.hand state)) x.1 (device_of (S.hand x.0))) }
+    ensures held { IfOk result (λ x. OwnsOver D.Disk J.Journal (OwnsStage S.hand S.is_staged) x.0 disk.new) }
     ensures others { KeepsOthers D.Disk J.Journal disk.old disk.new }
     ensures disk { IsErrOf result SessionFault.Disk → Rose (D.faults disk.old) (D.faults disk.new) }
     ensures edge { IsErrOf result SessionFault.Output → Rose (K.faults sink.old) (K.faults sink.new) }

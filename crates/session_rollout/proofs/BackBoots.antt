@@ -60,20 +60,21 @@ none_comes true o well none some = false≢true (sym well)
 none_comes false None well none some = false≢true some
 none_comes false (Some n) well none some = absurd cc
 
-never_through : (d : Device) → IsSound d → IsIn stages.Backing d → has_failed d ≡ false → (duty_of d).turn ≡ None → ⊥
+never_through : (d : Device) → IsSound d → IsIn stages.Backing d → has_failed d ≡ false → (duty_of d).next_bootstrap ≡ None → ⊥
 never_through d sound is well none = by d.pending sound.pending is well none
   where
     in_stage : (s : Stage) (q : Pending) → s ≡ stages.Backing → IsInStage d.origin d.set (record q { stage = s }) → q.boot_failed ≡ false →
-        (duty_in d (record q { stage = s })).turn ≡ None → ⊥
+        (duty_in d (record q { stage = s })).next_bootstrap ≡ None → ⊥
     in_stage s q is under well none =
         let at : IsInStage d.origin d.set (record q { stage = stages.Backing }) = subst (λ (x : Stage). IsInStage d.origin d.set (record q { stage = x })) is
         under in
-        let turn : (duty_in d (record q { stage = stages.Backing })).turn ≡ None = subst (λ (x : Stage). (duty_in d (record q { stage = x })).turn ≡ None) is
+        let is_next : (duty_in d (record q { stage = stages.Backing })).next_bootstrap ≡ None =
+        subst (λ (x : Stage). (duty_in d (record q { stage = x })).next_bootstrap ≡ None) is
         none in
-        none_comes q.boot_failed (slice_get q.backs q.ended) well turn at.left
+        none_comes q.boot_failed (slice_get q.backs q.ended) well is_next at.left
 
     by : (o : Option Pending) → IfSome o (IsUnderWay d) → IsSomeAnd o (λ q. q.stage ≡ stages.Backing) → option_map_or (λ q. q.boot_failed) o false ≡ false →
-        (duty_of (pends d o)).turn ≡ None → ⊥
+        (duty_of (pends d o)).next_bootstrap ≡ None → ⊥
     by None under is well none = is
     by (Some q) under is well none = in_stage q.stage q is under.1 well none
 
@@ -87,10 +88,10 @@ pub boots_as : (k t : Booted) (records : List Record) (q : SessionState) (d : De
     BootsLeft k records q d world told living → BootsLeft t records q d world told living
 boots_as k t records q d world told living is left = subst (λ (x : Booted). BootsLeft x records q d world told living) is left
 
-pub boots_front : (k : Booted) (records : List Record) (q : SessionState) (d : Device) (world : Components) (told : Told) (living : List ℕ) → GoesOn k →
+pub boots_stage : (k : Booted) (records : List Record) (q : SessionState) (d : Device) (world : Components) (told : Told) (living : List ℕ) → GoesOn k →
     BootsLeft k records q d world told living → IsAtBootStage q d world told living
-boots_front k records q d world told living (inl is) left = (boots_as k booted.Through records q d world told living is left).0
-boots_front k records q d world told living (inr is) left = (boots_as k booted.Failed records q d world told living is left).0
+boots_stage k records q d world told living (inl is) left = (boots_as k booted.Through records q d world told living is left).0
+boots_stage k records q d world told living (inr is) left = (boots_as k booted.Failed records q d world told living is left).0
 
 backing_failed : (k : Booted) (records : List Record) (q : SessionState) (d : Device) (world : Components) (told : Told) (living : List ℕ) → GoesOn k →
     IsSound d → IsIn stages.Backing d → BootsLeft k records q d world told living → has_failed d ≡ true

@@ -30,15 +30,15 @@ place_is : (b : Bool) (k : ℕ) → is_some (if b then Some k else None) ≡ b
 place_is true k = refl
 place_is false k = refl
 
-eq_turned : (a b : ℕ) → nat_eq a b ≡ (b == a)
-eq_turned a b = grind (arith, nat_tests)
+eq_swapped : (a b : ℕ) → nat_eq a b ≡ (b == a)
+eq_swapped a b = grind (arith, nat_tests)
 
 abbrev Found : List ℕ → Type 0
 Found l = nat_lt (position_or_len (nat_eq 3) l) (length l) ≡ has_three l
 
 found_by : (x : ℕ) (l : List ℕ) (b : Bool) → nat_eq 3 x ≡ b → Found l → Found (x ∷ l)
-found_by x l true is rest = let turned : (x == 3) ≡ true = sym (eq_turned 3 x) ∙ is in grind (arith, nat_tests, is, turned)
-found_by x l false is rest = let turned : (x == 3) ≡ false = sym (eq_turned 3 x) ∙ is in grind (arith, nat_tests, is, turned, rest)
+found_by x l true is rest = let turned : (x == 3) ≡ true = sym (eq_swapped 3 x) ∙ is in grind (arith, nat_tests, is, turned)
+found_by x l false is rest = let turned : (x == 3) ≡ false = sym (eq_swapped 3 x) ∙ is in grind (arith, nat_tests, is, turned, rest)
 
 found_in : (l : List ℕ) → Found l
 found_in [] = refl

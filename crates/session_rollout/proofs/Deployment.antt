@@ -6,7 +6,7 @@ use Rattle.std.proofs.Common.{◌≡◌, ◌∙◌, refl, sym, ap, subst, arith}
 use Rattle.std.proofs.lemmas.Bool.{false≢true}
 use Rattle.records.specs.Stored.{Record, Accepted, BootBegun, BootEnded, Activating, StepFailed, Failing, FailingBack, Closed}
 use Rattle.device.specs.Devices.{Device, Pending}
-use Rattle.device.specs.Lawful.{Lawful, Run, activated, applied, begun, boot_ended, close_pending, count_failure, rolled, turned_back}
+use Rattle.device.specs.Lawful.{Lawful, Run, activated, applied, begun, boot_ended, close_pending, count_failure, rolled, sent_back}
 use Rattle.step_runner.specs.Entries.{Told}
 use Rattle.step_runner.specs.declared.entries.Seen.{Seen}
 use Rattle.step_runner.specs.declared.entries.Seen.TheVariants as seen
@@ -21,7 +21,7 @@ use Rattle.session_boots.specs.Stands.{IsAtBootStage}
 use Rattle.session_admission.specs.Readied.{AreReadiedFor}
 use Rattle.session_admission.proofs.Serving.{ready_after}
 
--- ---- a place at which no document is taken
+-- ---- a state in which no document is taken
 
 -- the inbox was asked as often as it is to be, and gave none
 pub record TakesNone (p : SessionState) : Type 0 where
@@ -29,17 +29,17 @@ pub record TakesNone (p : SessionState) : Type 0 where
   pub turns : p.turns ≡ 0
   pub answer : p.answer ≡ None
 
--- the same place but for its inbox
+-- the same state but for its inbox
 abbrev pub shut : SessionState → SessionState
 shut p = record p { serves = true; turns = 0; answer = None }
 
 pub shut_takes : (p : SessionState) → TakesNone (shut p)
 shut_takes p = record { serves = refl; turns = refl; answer = refl }
 
--- the front of a bootstrap asks nothing of an inbox
-pub shut_front : (p : SessionState) (d : Device) (world : Components) (told : Told) (living : List ℕ) → IsAtBootStage p d world told living →
+-- the start of a bootstrap asks nothing of an inbox
+pub shut_stage : (p : SessionState) (d : Device) (world : Components) (told : Told) (living : List ℕ) → IsAtBootStage p d world told living →
     IsAtBootStage (shut p) d world told living
-shut_front p d world told living f =
+shut_stage p d world told living f =
     let s = f.between.stands in
     let still = f.between.still in
     record {
@@ -159,7 +159,7 @@ still_none d (BootEnded n e) other none = ap (option_map (boot_ended e)) none
 still_none d Activating other none = ap (option_map activated) none
 still_none d (StepFailed n s e) other none = ap (option_map (count_failure d.set n)) none
 still_none d (Failing n) other none = ap (option_map rolled) none
-still_none d (FailingBack n) other none = ap (option_map (turned_back d.origin d.set)) none
+still_none d (FailingBack n) other none = ap (option_map (sent_back d.origin d.set)) none
 still_none d (Closed o) other none = ap (λ (x : Option Pending). (close_pending o d x).pending) none ∙ none
 still_none d _ other none = none
 

@@ -11,9 +11,9 @@ use Rattle.histories.specs.TraceEvents.{TraceEvent, records_of}
 use Rattle.histories.specs.States.{SessionState, state_after}
 use Rattle.histories.proofs.Joined.{left-append}
 use Rattle.session_boots.specs.Lines.{lines_of}
-use Rattle.session_boots.specs.Traces.{Acts, IsTrace}
+use Rattle.session_boots.specs.Traces.{ActTrace, IsTrace}
 use Rattle.session_boots.proofs.Joins.{records_opened}
-use Rattle.session_rollout.specs.Driven.{Course}
+use Rattle.session_rollout.specs.Driven.{DrivenCourse}
 use Rattle.session_rollout.proofs.Joining.{went_acting}
 
 module _ (entries : Image → List (List ℕ) → Type 0) (files : List ℕ → Type 0) {D : Type 0} {may_leave : D → Image → Type 0} {moment : D → ℕ} {left_since : D →
@@ -21,5 +21,5 @@ module _ (entries : Image → List (List ℕ) → Type 0) (files : List ℕ → 
   pub ended : {A : Type 0} (old new : D) (a b : Option (List RunnerEntry)) (u v : Option (List ℕ)) (p : SessionState) (h : List TraceEvent) (x : A)
       (is : A → List TraceEvent → SessionState → Type 0)
       → IsTrace entries files may_leave moment left_since old new a b p h → Appends u v (lines_of p.device (records_of h)) → is x h (state_after p h)
-      → Course entries files may_leave moment left_since old new a b u v p (Ok x) is
+      → DrivenCourse entries files may_leave moment left_since old new a b u v p (Ok x) is
   ended old new a b u v p h x is trace told left = record { history = h; trace = trace; lines = told; left = left; bare = tt }

@@ -13,8 +13,8 @@ mapped_none : {A : Type 0} (f : A → List ℕ) (r : Option A) (o : Option (List
 mapped_none f None o b told some = sym (ap (λ (x : Option (List ℕ)). is_none x) told)
 mapped_none f (Some x) o b told some = sym (ap (λ (x : Option (List ℕ)). is_none x) told)
 
-turn_none : (d : Device) → IsIn stages.Booting d → has_failed d ≡ false → is_none (next_name d) ≡ is_none (duty_of d).turn
-turn_none d is fresh = sym (ap (λ (b : Bool). b || is_none (next_name d)) fresh) ∙ through_is d
+next_none : (d : Device) → IsIn stages.Booting d → has_failed d ≡ false → is_none (next_name d) ≡ is_none (duty_of d).next_bootstrap
+next_none d is fresh = sym (ap (λ (b : Bool). b || is_none (next_name d)) fresh) ∙ through_is d
 
 is_none_of : {A : Type 0} (o : Option A) → is_none o ≡ true → o ≡ None
 is_none_of None is = refl
@@ -30,11 +30,11 @@ other (Some x) b is = ap (λ (x : Bool). if x then false else true) is
 
 module _ {A : Type 0} (f : A → List ℕ) (r : Option A) (some : Bool) (d : Device) (is : IsIn stages.Booting d) (fresh : has_failed d ≡ false)
     (told : option_map f r ≡ next_name d) (some_is : is_some r ≡ some) where
-  turn_is : is_none (duty_of d).turn ≡ (if some then false else true)
-  turn_is = sym (turn_none d is fresh) ∙ mapped_none f r (next_name d) some told some_is ∙ other r some some_is
+  next_is : is_none (duty_of d).next_bootstrap ≡ (if some then false else true)
+  next_is = sym (next_none d is fresh) ∙ mapped_none f r (next_name d) some told some_is ∙ other r some some_is
 
-  pub some_turn : some ≡ true → IsSome (duty_of d).turn
-  some_turn found = some_of (duty_of d).turn (turn_is ∙ ap (λ (x : Bool). if x then false else true) found)
+  pub some_next : some ≡ true → IsSome (duty_of d).next_bootstrap
+  some_next found = some_of (duty_of d).next_bootstrap (next_is ∙ ap (λ (x : Bool). if x then false else true) found)
 
-  pub no_turn : some ≡ false → (duty_of d).turn ≡ None
-  no_turn found = is_none_of (duty_of d).turn (turn_is ∙ ap (λ (x : Bool). if x then false else true) found)
+  pub no_next : some ≡ false → (duty_of d).next_bootstrap ≡ None
+  no_next found = is_none_of (duty_of d).next_bootstrap (next_is ∙ ap (λ (x : Bool). if x then false else true) found)

@@ -13,7 +13,7 @@ use Rattle.deploy_state.specs.declared.state.BrokeOff.TheVariants as broken
 use Rattle.step_runner.specs.declared.entries.RunnerEntry.{RunnerEntry}
 use Rattle.histories.specs.TraceEvents.{TraceEvent}
 use Rattle.histories.specs.States.{SessionState}
-use Rattle.session_boots.specs.Traces.{Acts, IsTrace}
+use Rattle.session_boots.specs.Traces.{ActTrace, IsTrace}
 use Rattle.session_boots.proofs.Joins.{acted}
 
 pub acted_held : {J D : Type 0} {is_modelled : Bool} {seen : D → Image} {may_leave : D → Image → Type 0} {moment : D → ℕ} {left_since : D → ℕ → Image → Type 0}
@@ -21,7 +21,7 @@ pub acted_held : {J D : Type 0} {is_modelled : Bool} {seen : D → Image} {may_l
     List (List ℕ) → Type 0} {end : J → ℕ}
     → DiskLaws is_modelled seen may_leave moment left_since → JournalLaws files entries holds_none is_damaged stands end
     → (log : J) (disk : D) (a b : Option (List RunnerEntry)) (p : SessionState) (d : Device) (h : List TraceEvent) → p.device ≡ d →
-    OwnsJournal is_modelled may_leave stands end log disk d → Acts p h a b
+    OwnsJournal is_modelled may_leave stands end log disk d → ActTrace p h a b
     → IsTrace entries files may_leave moment left_since disk disk a b p h
 acted_held {files} {entries} disk_laws laws log disk a b p d h is held acts =
     acted entries files disk_laws disk a b p h (λ i left. subst (λ (x : Device). StandsFor entries i x) (sym is)

@@ -8,7 +8,7 @@ use Rattle.records.specs.Stored.{Record}
 use Rattle.device.specs.Devices.{Device}
 use Rattle.device.specs.Lawful.{Run}
 use Rattle.device.specs.Standing.{StandsFor}
-use Rattle.step_runner.specs.Entries.{Grows}
+use Rattle.step_runner.specs.Entries.{HasGrownBy}
 use Rattle.step_runner.specs.declared.entries.RunnerEntry.{RunnerEntry}
 use Rattle.histories.specs.Courses.{IsBare}
 use Rattle.histories.specs.Follows.{IsLast}
@@ -16,15 +16,15 @@ use Rattle.histories.specs.TraceEvents.{TraceEvent, Recorded, entries_of, record
 use Rattle.histories.specs.States.{SessionState, state_after}
 use Rattle.histories.proofs.Joined.{left-append, proper-append, entries-append}
 use Rattle.session_boots.specs.Lines.{lines_of}
-use Rattle.session_boots.specs.Ends.{LeftAt, Left, Lines, LinesAt, StopsAt}
-use Rattle.session_boots.specs.Traces.{Acts, HoldsPrefixes, StandsForMost, IsTrace}
+use Rattle.session_boots.specs.Ends.{LeftAt, ResultLeft, HasLines, LinesAt, StopsAt}
+use Rattle.session_boots.specs.Traces.{ActTrace, HoldsPrefixes, StandsForMost, IsTrace}
 use Rattle.session_boots.specs.declared.ends.SessionFault.{SessionFault}
 use Rattle.session_boots.specs.declared.ends.SessionFault.TheVariants as over
 use Rattle.session_boots.proofs.Acting.{grows_on}
 use Rattle.session_boots.proofs.Joins.{records_opened, went_on}
-use Rattle.session_boots.proofs.Told.{all_told, left_joined, lines_at_joined}
+use Rattle.session_boots.proofs.Told.{all_printed, left_joined, lines_at_joined}
 use Rattle.session_transitions.specs.Kills.{KeepsRest}
-use Rattle.session_rollout.specs.Driven.{Course}
+use Rattle.session_rollout.specs.Driven.{DrivenCourse}
 
 -- ---- two parts, of which the first one goes on
 
@@ -34,14 +34,14 @@ Holds {A} is h = (x : A) (g : List TraceEvent) (q : SessionState) → is x g q �
 
 lines_of_both : {A : Type 0} (a b c : Option (List ℕ)) (p : SessionState) (h g : List TraceEvent) (r : Result A SessionFault) →
     Run p.device (records_of h) (state_after p h).device
-    → Appends a b (lines_of p.device (records_of h)) → Lines b c (state_after p h).device (records_of g) r → Lines a c p.device (records_of (g ++ h)) r
-lines_of_both a b c p h g (Ok x) run one two = all_told a b c p h g run one two
+    → Appends a b (lines_of p.device (records_of h)) → HasLines b c (state_after p h).device (records_of g) r → HasLines a c p.device (records_of (g ++ h)) r
+lines_of_both a b c p h g (Ok x) run one two = all_printed a b c p h g run one two
 lines_of_both a b c p h g (Err e) run one two = lines_at_joined a b c p h g e run one two
 
 left_of_both : {A D : Type 0} (entries : Image → List (List ℕ) → Type 0) (may_leave : D → Image → Type 0) (disk : D) (p : SessionState)
     (h g : List TraceEvent) (is : A → List TraceEvent → SessionState → Type 0) (r : Result A SessionFault)
-    → Run p.device (records_of h) (state_after p h).device → Holds is h → Left entries may_leave disk (state_after p h) g (λ x q. is x g q) r →
-    Left entries may_leave disk p (g ++ h) (λ x q. is x (g ++ h) q) r
+    → Run p.device (records_of h) (state_after p h).device → Holds is h → ResultLeft entries may_leave disk (state_after p h) g (λ x q. is x g q) r →
+    ResultLeft entries may_leave disk p (g ++ h) (λ x q. is x (g ++ h) q) r
 left_of_both entries may_leave disk p h g is (Ok x) run holds left = subst (λ (q : SessionState). is x (g ++ h) q) (sym (left-append p g h))
     (holds x g (state_after (state_after p h) g) left)
 left_of_both entries may_leave disk p h g is (Err e) run holds left = left_joined entries may_leave disk p h g e run left
@@ -57,8 +57,8 @@ module _ (entries : Image → List (List ℕ) → Type 0) (files : List ℕ → 
   pub joined : {A : Type 0} (old mid new : D) (a b c : Option (List RunnerEntry)) (u v w : Option (List ℕ)) (p : SessionState) (h : List TraceEvent)
       (r : Result A SessionFault) (is : A → List TraceEvent → SessionState → Type 0)
       → IsTrace entries files may_leave moment left_since old mid a b p h → Appends u v (lines_of p.device (records_of h)) → Holds is h
-      → Course entries files may_leave moment left_since mid new b c v w (state_after p h) r is
-      → Course entries files may_leave moment left_since old new a c u w p r is
+      → DrivenCourse entries files may_leave moment left_since mid new b c v w (state_after p h) r is
+      → DrivenCourse entries files may_leave moment left_since old new a c u w p r is
   joined old mid new a b c u v w p h r is one told holds two = record {
     history = two.history ++ h;
     trace = went_on entries files laws old mid new a b c p h two.history one two.trace;
@@ -72,7 +72,7 @@ module _ (entries : Image → List (List ℕ) → Type 0) (files : List ℕ → 
 module _ (entries : Image → List (List ℕ) → Type 0) (files : List ℕ → Type 0) {D : Type 0} {may_leave : D → Image → Type 0} {moment : D → ℕ} {left_since : D →
     ℕ → Image → Type 0} where
   pub went_acting : (old new : D) (a b c : Option (List RunnerEntry)) (p : SessionState) (h k : List TraceEvent) →
-      IsTrace entries files may_leave moment left_since old new a b p h → Acts (state_after p h) k b c
+      IsTrace entries files may_leave moment left_since old new a b p h → ActTrace (state_after p h) k b c
       → IsTrace entries files may_leave moment left_since old new a c p (k ++ h)
   went_acting old new a b c p h k one acts =
       let same = records_opened h k acts.none in
@@ -82,7 +82,7 @@ module _ (entries : Image → List (List ℕ) → Type 0) (files : List ℕ → 
         run = subst (λ (l : List Record). Run p.device l (state_after p (k ++ h)).device) (sym same)
             (subst (λ (x : Device). Run p.device (records_of h) x) (sym left) one.run);
         course = subst (λ (l : List Record). HoldsPrefixes entries files may_leave moment left_since old new p.device l) (sym same) one.course;
-        list = subst (λ (l : List RunnerEntry). Grows a c l) (sym (entries-append k h)) (grows_on a b c (entries_of h) (entries_of k) one.list acts.list);
+        list = subst (λ (l : List RunnerEntry). HasGrownBy a c l) (sym (entries-append k h)) (grows_on a b c (entries_of h) (entries_of k) one.list acts.list);
       }
 
 lines_acting : (u v : Option (List ℕ)) (d : Device) (h k : List TraceEvent) (e : SessionFault) → records_of k ≡ [] → LinesAt u v d (records_of h) e →
@@ -103,7 +103,7 @@ stops_killed h k kills s = record {
 }
 
 pub left_killed : {D : Type 0} (entries : Image → List (List ℕ) → Type 0) (may_leave : D → Image → Type 0) (disk : D) (p : SessionState) (h k : List TraceEvent)
-    (e : SessionFault) (a b : Option (List RunnerEntry)) → Acts (state_after p h) k a b
+    (e : SessionFault) (a b : Option (List RunnerEntry)) → ActTrace (state_after p h) k a b
     → KeepsRest (state_after p h) (state_after (state_after p h) k) → AllByRecursion IsLast k → LeftAt entries may_leave disk p h e →
     LeftAt entries may_leave disk p (k ++ h) e
 left_killed entries may_leave disk p h k over.Disk a b acts keeps kills left = (
@@ -125,16 +125,16 @@ module _ (entries : Image → List (List ℕ) → Type 0) (files : List ℕ → 
       (e : SessionFault) (is : A → List TraceEvent → SessionState → Type 0)
       → IsTrace entries files may_leave moment left_since old new a b p h → LinesAt u v p.device (records_of h) e → LeftAt entries may_leave new p h e →
       IsBare (state_after p h)
-      → Course entries files may_leave moment left_since old new a b u v p (Err e) is
+      → DrivenCourse entries files may_leave moment left_since old new a b u v p (Err e) is
   given_up old new a b u v p h e is trace lines left bare = record { history = h; trace = trace; lines = lines; left = left; bare = bare }
 
   -- its children were killed
   pub cut_off : {A : Type 0} (old new : D) (a b c : Option (List RunnerEntry)) (u v : Option (List ℕ)) (p : SessionState) (h k : List TraceEvent)
       (e : SessionFault) (is : A → List TraceEvent → SessionState → Type 0)
       → IsTrace entries files may_leave moment left_since old new a b p h → LinesAt u v p.device (records_of h) e → LeftAt entries may_leave new p h e
-      → Acts (state_after p h) k b c → KeepsRest (state_after p h) (state_after (state_after p h) k) → IsBare (state_after (state_after p h) k) →
+      → ActTrace (state_after p h) k b c → KeepsRest (state_after p h) (state_after (state_after p h) k) → IsBare (state_after (state_after p h) k) →
       AllByRecursion IsLast k
-      → Course entries files may_leave moment left_since old new a c u v p (Err e) is
+      → DrivenCourse entries files may_leave moment left_since old new a c u v p (Err e) is
   cut_off old new a b c u v p h k e is trace lines left acts keeps bare kills = record {
     history = k ++ h;
     trace = went_acting entries files old new a b c p h k trace acts;

@@ -18,7 +18,7 @@ use Rattle.histories.specs.States.{SessionState}
 use Rattle.histories.specs.Follows.{MayClear, MayStopAll}
 use Rattle.session_boots.specs.Stands.{IsAtBootStage, IsOpened, generation_of}
 use Rattle.session_transitions.proofs.Rising.{orderly_at}
-use Rattle.session_transitions.specs.Fails.{IsTurned}
+use Rattle.session_transitions.specs.Fails.{IsAtRollbackStart}
 use Rattle.session_shutdown.specs.Runs.{IsAtTurnStart, IsGoing}
 use Rattle.session_shutdown.specs.Stops.{HasStopped, MayStop}
 
@@ -68,15 +68,15 @@ may_clear : (d : Duty) (b : Bool) (p : SessionState) → MayClear d p → MaySto
 may_clear d true p clear = clear
 may_clear d false p clear = clear
 
--- ---- the places
+-- ---- the states
 
 module _ (p : SessionState) (d : Device) (world : Components) (told : Told) (living : List ℕ) where
-  pub turned_stops : IsTurned p d world told living → MayStop p d world told living
-  turned_stops t = record {
+  pub rollback_stops : IsAtRollbackStart p d world told living → MayStop p d world told living
+  rollback_stops t = record {
     stands = t.stands;
     may = t.clear;
     orderly = t.orderly;
-    owed = t.quiet.told;
+    owed = t.quiet.owes_none;
     boot = t.boot;
     boot_end = t.boot_end;
     over = t.over;
@@ -84,26 +84,27 @@ module _ (p : SessionState) (d : Device) (world : Components) (told : Told) (liv
   }
 
   -- those that stand before the first bootstrap
-  pub opened_stops : IsOpened p d world told living → IsOrderly world → IsIn stages.Booting d → IsSome (duty_of d).turn → MayStop p d world told living
-  opened_stops o orderly is turn =
+  pub opened_stops : IsOpened p d world told living → IsOrderly world → IsIn stages.Booting d
+      → IsSome (duty_of d).next_bootstrap → MayStop p d world told living
+  opened_stops o orderly is is_next =
       let same = o.stands.device_is in
       let phase : (duty_of p.device).phase ≡ booting = ap (λ (x : Device). (duty_of x).phase) same ∙ boots_phase d is in
-      let some : IsSome (duty_of p.device).turn = subst (λ (x : Device). IsSome (duty_of x).turn) (sym same) turn in
+      let some : IsSome (duty_of p.device).next_bootstrap = subst (λ (x : Device). IsSome (duty_of x).next_bootstrap) (sym same) is_next in
       record {
         stands = o.stands;
         may = subst (λ (c : Generation). MayStopAll (duty_of p.device) (duty_of p.device).phase c p) (sym o.generation)
             (subst (λ (f : Phase). MayStopAll (duty_of p.device) f (generation_of p.world) p) (sym phase)
             (may_clear (duty_of p.device) (is_stopped p.world) p (some, o.boot, o.boot_end)));
         orderly = orderly_at p d world told living o.stands orderly;
-        owed = o.quiet.told;
+        owed = o.quiet.owes_none;
         boot = o.boot;
         boot_end = o.boot_end;
         over = o.over;
         cut = o.cut;
       }
 
-  pub stopped_front : is_idle (duty_of d).phase ≡ false → HasStopped p d world told living → IsAtBootStage p d world told living
-  stopped_front busy s = record {
+  pub stopped_stage : is_idle (duty_of d).phase ≡ false → HasStopped p d world told living → IsAtBootStage p d world told living
+  stopped_stage busy s = record {
     between = record {
       stands = s.stands;
       still = record {

@@ -15,7 +15,7 @@ use Rattle.histories.specs.Phases.{Generation, current, draining}
 use Rattle.histories.specs.TraceEvents.{TraceEvent, records_of}
 use Rattle.histories.specs.States.{SessionState, state_after}
 use Rattle.session_boots.specs.Booted.{BootsLeft}
-use Rattle.session_boots.specs.Ends.{Left, Lines}
+use Rattle.session_boots.specs.Ends.{ResultLeft, HasLines}
 use Rattle.session_boots.specs.Traces.{IsTrace}
 use Rattle.session_boots.specs.declared.ends.SessionFault.{SessionFault}
 use Rattle.session_boots.specs.declared.ends.Booted.TheVariants as booted
@@ -47,20 +47,20 @@ module _ {J D : Type 0} (is_modelled : Bool) (may_leave : D → Image → Type 0
   OwnsDriven (driven.Restart s) disk = OwnsLoaded is_modelled may_leave stands end s disk
   OwnsDriven (driven.Reboot s) disk = OwnsLoaded is_modelled may_leave stands end s disk
 
--- From a place on this happened, its lines were printed, and it leaves what is said of the result. Where it gives up no
+-- From a state on this happened, its lines were printed, and it leaves what is said of the result. Where it gives up no
 -- child lives.
 module _ (entries : Image → List (List ℕ) → Type 0) (files : List ℕ → Type 0) {D : Type 0} (may_leave : D → Image → Type 0) (moment : D → ℕ)
     (left_since : D → ℕ → Image → Type 0) where
-  pub record Course {A : Type 0} (old new : D) (old_list new_list : Option (List RunnerEntry)) (old_held new_held : Option (List ℕ)) (p : SessionState)
+  pub record DrivenCourse {A : Type 0} (old new : D) (old_list new_list : Option (List RunnerEntry)) (old_held new_held : Option (List ℕ)) (p : SessionState)
       (result : Result A SessionFault) (is : A → List TraceEvent → SessionState → Type 0) : Type 0 where
     pub history : List TraceEvent
     pub trace : IsTrace entries files may_leave moment left_since old new old_list new_list p history
-    pub lines : Lines old_held new_held p.device (records_of history) result
-    pub left : Left entries may_leave new p history (λ x q. is x history q) result
+    pub lines : HasLines old_held new_held p.device (records_of history) result
+    pub left : ResultLeft entries may_leave new p history (λ x q. is x history q) result
     pub bare : OnErr result (IsBare (state_after p history))
 
 -- the same, each device passed with all that its trait tells
 module _ {D J K R : Type 0} (disk : a_disk.Ghosts D) (journal : a_journal.Ghosts J) (sink : a_sink.Ghosts K) (runner : a_runner.Ghosts R) where
   abbrev pub IsCourse : {A : Type 0} → D → D → K → K → R → R → SessionState → Result A SessionFault → (A → List TraceEvent → SessionState → Type 0) → Type 0
-  IsCourse d e k l r s p result is = Course journal.entries journal.files disk.may_leave disk.moment disk.left_since d e
+  IsCourse d e k l r s p result is = DrivenCourse journal.entries journal.files disk.may_leave disk.moment disk.left_since d e
       (runner.list r) (runner.list s) (sink.held k) (sink.held l) p result is

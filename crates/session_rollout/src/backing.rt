@@ -1,5 +1,5 @@
 //! The bootstraps of the set run again, and then its items come up.
-ghost use Rattle.law_termination.specs.Drives.{Drives};
+ghost use Rattle.law_termination.specs.Drives.{AreDriven};
 ghost use Rattle.std.specs.Prelude.{◌≡◌, [], IfOk, OnErr, IsErrOf, true};
 ghost use Rattle.nuc_base.specs.Faults.{Rose};
 ghost use Rattle.session_boots.specs.Staged.{IsStillBacking};
@@ -10,7 +10,7 @@ ghost use Rattle.session_rollout.specs.Driven.{IsCourse, DrivenLeft, OwnsDriven}
 ghost use Rattle.session_boots.specs.Stands.{IsAtBootStage};
 ghost use Rattle.histories.specs.States.{SessionState};
 ghost use Rattle.law_supervisor.specs.Sound.{IsOrderly};
-ghost use Rattle.deploy_state.specs.Objects.{Holds, KeepsOthers};
+ghost use Rattle.deploy_state.specs.Objects.{OwnsOver, KeepsOthers};
 ghost use Rattle.session_boots.specs.Stages.{AsTold};
 
 use crate::driven::{Driven, Presence};
@@ -45,18 +45,18 @@ fn end_backs<D: Disk, J: Journal + Drop, K: Sink, R: Runner, S: Supervise>(
 ) -> Result<Driven<J>, SessionFault>
 where
     S::Ready: Drop,
-    requires held { Holds D.Disk J.Journal OwnsBacked backed disk.old }
+    requires held { OwnsOver D.Disk J.Journal OwnsBacked backed disk.old }
     requires failed { IsStillBacking backed → has_failed (backed_device backed) ≡ true }
     requires ready { EndsBacks backed (S.coming ready) }
-    requires drives { Drives (S.world supervisor.old) }
+    requires drives { AreDriven (S.world supervisor.old) }
     requires orderly { IsOrderly (S.world supervisor.old) }
-    requires placed { (p : SessionState) × AsTold R.Runner runner.old (IsAtBootStage p (backed_device backed) (S.world supervisor.old)) }
+    requires from_state { (p : SessionState) × AsTold R.Runner runner.old (IsAtBootStage p (backed_device backed) (S.world supervisor.old)) }
     ensures course { (p : SessionState) → AsTold R.Runner runner.old (IsAtBootStage p (backed_device backed) (S.world supervisor.old)) →
         IsCourse D.Disk J.Journal K.Sink R.Runner disk.old disk.new sink.old sink.new runner.old runner.new p result
         (λ x h q. AsTold R.Runner runner.new (DrivenLeft x h q (S.world supervisor.new))) }
     ensures none { OnErr result (R.living runner.new ≡ []) }
-    ensures drives { IfOk result (λ x. Drives (S.world supervisor.new)) }
-    ensures held { IfOk result (λ x. Holds D.Disk J.Journal OwnsDriven x disk.new) }
+    ensures drives { IfOk result (λ x. AreDriven (S.world supervisor.new)) }
+    ensures held { IfOk result (λ x. OwnsOver D.Disk J.Journal OwnsDriven x disk.new) }
     ensures others { KeepsOthers D.Disk J.Journal disk.old disk.new }
     ensures disk { IsErrOf result SessionFault.Disk → Rose (D.faults disk.old) (D.faults disk.new) }
     ensures edge { IsErrOf result SessionFault.Output → Rose (K.faults sink.old) (K.faults sink.new) }
@@ -87,17 +87,17 @@ pub(crate) fn back_on<D: Disk, J: Journal + Drop, K: Sink, R: Runner, S: Supervi
 ) -> Result<Driven<J>, SessionFault>
 where
     S::Ready: Drop,
-    requires held { Holds D.Disk J.Journal OwnsBacking state disk.old }
+    requires held { OwnsOver D.Disk J.Journal OwnsBacking state disk.old }
     requires ready { HasWayBack (backing_device state) backs.now (S.coming ready) }
-    requires drives { Drives (S.world supervisor.old) }
+    requires drives { AreDriven (S.world supervisor.old) }
     requires orderly { IsOrderly (S.world supervisor.old) }
-    requires placed { (p : SessionState) × AsTold R.Runner runner.old (IsAtBootStage p (backing_device state) (S.world supervisor.old)) }
+    requires from_state { (p : SessionState) × AsTold R.Runner runner.old (IsAtBootStage p (backing_device state) (S.world supervisor.old)) }
     ensures course { (p : SessionState) → AsTold R.Runner runner.old (IsAtBootStage p (backing_device state) (S.world supervisor.old)) →
         IsCourse D.Disk J.Journal K.Sink R.Runner disk.old disk.new sink.old sink.new runner.old runner.new p result
         (λ x h q. AsTold R.Runner runner.new (DrivenLeft x h q (S.world supervisor.new))) }
     ensures none { OnErr result (R.living runner.new ≡ []) }
-    ensures drives { IfOk result (λ x. Drives (S.world supervisor.new)) }
-    ensures held { IfOk result (λ x. Holds D.Disk J.Journal OwnsDriven x disk.new) }
+    ensures drives { IfOk result (λ x. AreDriven (S.world supervisor.new)) }
+    ensures held { IfOk result (λ x. OwnsOver D.Disk J.Journal OwnsDriven x disk.new) }
     ensures others { KeepsOthers D.Disk J.Journal disk.old disk.new }
     ensures disk { IsErrOf result SessionFault.Disk → Rose (D.faults disk.old) (D.faults disk.new) }
     ensures edge { IsErrOf result SessionFault.Output → Rose (K.faults sink.old) (K.faults sink.new) }
@@ -127,17 +127,17 @@ pub(crate) fn roll_back<D: Disk, J: Journal + Drop, K: Sink, R: Runner, S: Super
 ) -> Result<Driven<J>, SessionFault>
 where
     S::Ready: Drop,
-    requires held { Holds D.Disk J.Journal OwnsBrokenOff broke disk.old }
+    requires held { OwnsOver D.Disk J.Journal OwnsBrokenOff broke disk.old }
     requires ready { HasWayBack (broken_device broke) backs.now (S.coming ready) }
-    requires drives { Drives (S.world supervisor.old) }
+    requires drives { AreDriven (S.world supervisor.old) }
     requires orderly { IsOrderly (S.world supervisor.old) }
-    requires placed { (p : SessionState) × AsTold R.Runner runner.old (IsAtBootStage p (broken_device broke) (S.world supervisor.old)) }
+    requires from_state { (p : SessionState) × AsTold R.Runner runner.old (IsAtBootStage p (broken_device broke) (S.world supervisor.old)) }
     ensures course { (p : SessionState) → AsTold R.Runner runner.old (IsAtBootStage p (broken_device broke) (S.world supervisor.old)) →
         IsCourse D.Disk J.Journal K.Sink R.Runner disk.old disk.new sink.old sink.new runner.old runner.new p result
         (λ x h q. AsTold R.Runner runner.new (DrivenLeft x h q (S.world supervisor.new))) }
     ensures none { OnErr result (R.living runner.new ≡ []) }
-    ensures drives { IfOk result (λ x. Drives (S.world supervisor.new)) }
-    ensures held { IfOk result (λ x. Holds D.Disk J.Journal OwnsDriven x disk.new) }
+    ensures drives { IfOk result (λ x. AreDriven (S.world supervisor.new)) }
+    ensures held { IfOk result (λ x. OwnsOver D.Disk J.Journal OwnsDriven x disk.new) }
     ensures others { KeepsOthers D.Disk J.Journal disk.old disk.new }
     ensures disk { IsErrOf result SessionFault.Disk → Rose (D.faults disk.old) (D.faults disk.new) }
     ensures edge { IsErrOf result SessionFault.Output → Rose (K.faults sink.old) (K.faults sink.new) }

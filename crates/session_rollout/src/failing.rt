@@ -1,5 +1,5 @@
-//! A component failed three times: the deployment turns back, or stays as it is.
-ghost use Rattle.law_termination.specs.Drives.{Drives};
+//! A component failed three times: the deployment is rolled back, or stays as it is.
+ghost use Rattle.law_termination.specs.Drives.{AreDriven};
 ghost use Rattle.std.specs.Prelude.{◌≡◌, [], IfOk, OnErr, IsErrOf, true, false};
 ghost use Rattle.nuc_base.specs.Faults.{Rose};
 ghost use Rattle.session_startup.specs.Ended.{HasBroken};
@@ -10,9 +10,9 @@ ghost use Rattle.session_boots.specs.Stands.{IsAtBootStage};
 ghost use Rattle.histories.specs.Phases.{duty_of};
 ghost use Rattle.histories.specs.States.{SessionState};
 ghost use Rattle.histories.specs.Waits.{has_three};
-ghost use Rattle.session_transitions.specs.Fails.{IsTurned, is_to_roll_back};
+ghost use Rattle.session_transitions.specs.Fails.{IsAtRollbackStart, is_to_roll_back};
 ghost use Rattle.law_supervisor.specs.Sound.{IsOrderly};
-ghost use Rattle.deploy_state.specs.Objects.{Holds, KeepsOthers};
+ghost use Rattle.deploy_state.specs.Objects.{OwnsOver, KeepsOthers};
 ghost use Rattle.session_boots.specs.Stages.{AsTold};
 
 use crate::backing::roll_back;
@@ -40,16 +40,16 @@ fn stop_and_go_back<D: Disk, J: Journal + Drop, K: Sink, R: Runner, S: Supervise
 ) -> Result<Driven<J>, SessionFault>
 where
     S::Ready: Drop,
-    requires drives { Drives (S.world supervisor.old) }
-    requires held { Holds D.Disk J.Journal OwnsBrokenOff broke disk.old }
+    requires drives { AreDriven (S.world supervisor.old) }
+    requires held { OwnsOver D.Disk J.Journal OwnsBrokenOff broke disk.old }
     requires ready { HasWayBack (broken_device broke) backs.now (S.coming ready) }
-    requires placed { (p : SessionState) × AsTold R.Runner runner.old (IsTurned p (broken_device broke) (S.world supervisor.old)) }
-    ensures course { (p : SessionState) → AsTold R.Runner runner.old (IsTurned p (broken_device broke) (S.world supervisor.old)) →
+    requires from_state { (p : SessionState) × AsTold R.Runner runner.old (IsAtRollbackStart p (broken_device broke) (S.world supervisor.old)) }
+    ensures course { (p : SessionState) → AsTold R.Runner runner.old (IsAtRollbackStart p (broken_device broke) (S.world supervisor.old)) →
         IsCourse D.Disk J.Journal K.Sink R.Runner disk.old disk.new sink.old sink.new runner.old runner.new p result
         (λ x h q. AsTold R.Runner runner.new (DrivenLeft x h q (S.world supervisor.new))) }
     ensures none { OnErr result (R.living runner.new ≡ []) }
-    ensures drives { IfOk result (λ x. Drives (S.world supervisor.new)) }
-    ensures held { IfOk result (λ x. Holds D.Disk J.Journal OwnsDriven x disk.new) }
+    ensures drives { IfOk result (λ x. AreDriven (S.world supervisor.new)) }
+    ensures held { IfOk result (λ x. OwnsOver D.Disk J.Journal OwnsDriven x disk.new) }
     ensures others { KeepsOthers D.Disk J.Journal disk.old disk.new }
     ensures disk { IsErrOf result SessionFault.Disk → Rose (D.faults disk.old) (D.faults disk.new) }
     ensures edge { IsErrOf result SessionFault.Output → Rose (K.faults sink.old) (K.faults sink.new) }
@@ -61,7 +61,7 @@ where
 }
 
 /// The deployment is rolled back.
-fn turn_back<D: Disk, J: Journal + Drop, K: Sink, R: Runner, S: Supervise>(
+fn go_back<D: Disk, J: Journal + Drop, K: Sink, R: Runner, S: Supervise>(
     state: Activating<J>,
     backs: &[Prepared],
     ready: S::Ready,
@@ -72,17 +72,17 @@ fn turn_back<D: Disk, J: Journal + Drop, K: Sink, R: Runner, S: Supervise>(
 ) -> Result<Driven<J>, SessionFault>
 where
     S::Ready: Drop,
-    requires drives { Drives (S.world supervisor.old) }
-    requires held { Holds D.Disk J.Journal OwnsActivating state disk.old }
+    requires drives { AreDriven (S.world supervisor.old) }
+    requires held { OwnsOver D.Disk J.Journal OwnsActivating state disk.old }
     requires policy { is_to_roll_back (activating_device state) ≡ true }
     requires ready { HasWayBack (activating_device state) backs.now (S.coming ready) }
-    requires placed { (p : SessionState) × AsTold R.Runner runner.old (HasBroken p (activating_device state) (S.world supervisor.old)) }
+    requires from_state { (p : SessionState) × AsTold R.Runner runner.old (HasBroken p (activating_device state) (S.world supervisor.old)) }
     ensures course { (p : SessionState) → AsTold R.Runner runner.old (HasBroken p (activating_device state) (S.world supervisor.old)) →
         IsCourse D.Disk J.Journal K.Sink R.Runner disk.old disk.new sink.old sink.new runner.old runner.new p result
         (λ x h q. AsTold R.Runner runner.new (DrivenLeft x h q (S.world supervisor.new))) }
     ensures none { OnErr result (R.living runner.new ≡ []) }
-    ensures drives { IfOk result (λ x. Drives (S.world supervisor.new)) }
-    ensures held { IfOk result (λ x. Holds D.Disk J.Journal OwnsDriven x disk.new) }
+    ensures drives { IfOk result (λ x. AreDriven (S.world supervisor.new)) }
+    ensures held { IfOk result (λ x. OwnsOver D.Disk J.Journal OwnsDriven x disk.new) }
     ensures others { KeepsOthers D.Disk J.Journal disk.old disk.new }
     ensures disk { IsErrOf result SessionFault.Disk → Rose (D.faults disk.old) (D.faults disk.new) }
     ensures edge { IsErrOf result SessionFault.Output → Rose (K.faults sink.old) (K.faults sink.new) }
@@ -108,16 +108,16 @@ fn stay<D: Disk, J: Journal + Drop, K: Sink, R: Runner, S: Supervise>(
 ) -> Result<Driven<J>, SessionFault>
 where
     S::Ready: Drop,
-    requires drives { Drives (S.world supervisor.old) }
-    requires held { Holds D.Disk J.Journal OwnsActivating state disk.old }
+    requires drives { AreDriven (S.world supervisor.old) }
+    requires held { OwnsOver D.Disk J.Journal OwnsActivating state disk.old }
     requires policy { is_to_roll_back (activating_device state) ≡ false }
-    requires placed { (p : SessionState) × AsTold R.Runner runner.old (HasBroken p (activating_device state) (S.world supervisor.old)) }
+    requires from_state { (p : SessionState) × AsTold R.Runner runner.old (HasBroken p (activating_device state) (S.world supervisor.old)) }
     ensures course { (p : SessionState) → AsTold R.Runner runner.old (HasBroken p (activating_device state) (S.world supervisor.old)) →
         IsCourse D.Disk J.Journal K.Sink R.Runner disk.old disk.new sink.old sink.new runner.old runner.new p result
         (λ x h q. AsTold R.Runner runner.new (DrivenLeft x h q (S.world supervisor.new))) }
     ensures none { OnErr result (R.living runner.new ≡ []) }
-    ensures drives { IfOk result (λ x. Drives (S.world supervisor.new)) }
-    ensures held { IfOk result (λ x. Holds D.Disk J.Journal OwnsDriven x disk.new) }
+    ensures drives { IfOk result (λ x. AreDriven (S.world supervisor.new)) }
+    ensures held { IfOk result (λ x. OwnsOver D.Disk J.Journal OwnsDriven x disk.new) }
     ensures others { KeepsOthers D.Disk J.Journal disk.old disk.new }
     ensures disk { IsErrOf result SessionFault.Disk → Rose (D.faults disk.old) (D.faults disk.new) }
     ensures edge { IsErrOf result SessionFault.Output → Rose (K.faults sink.old) (K.faults sink.new) }
@@ -145,16 +145,16 @@ pub(crate) fn fail_items<D: Disk, J: Journal + Drop, K: Sink, R: Runner, S: Supe
 ) -> Result<Driven<J>, SessionFault>
 where
     S::Ready: Drop,
-    requires drives { Drives (S.world supervisor.old) }
-    requires held { Holds D.Disk J.Journal OwnsActivating state disk.old }
+    requires drives { AreDriven (S.world supervisor.old) }
+    requires held { OwnsOver D.Disk J.Journal OwnsActivating state disk.old }
     requires ready { HasWayBack (activating_device state) backs.now (S.coming ready) }
-    requires placed { (p : SessionState) × AsTold R.Runner runner.old (HasBroken p (activating_device state) (S.world supervisor.old)) }
+    requires from_state { (p : SessionState) × AsTold R.Runner runner.old (HasBroken p (activating_device state) (S.world supervisor.old)) }
     ensures course { (p : SessionState) → AsTold R.Runner runner.old (HasBroken p (activating_device state) (S.world supervisor.old)) →
         IsCourse D.Disk J.Journal K.Sink R.Runner disk.old disk.new sink.old sink.new runner.old runner.new p result
         (λ x h q. AsTold R.Runner runner.new (DrivenLeft x h q (S.world supervisor.new))) }
     ensures none { OnErr result (R.living runner.new ≡ []) }
-    ensures drives { IfOk result (λ x. Drives (S.world supervisor.new)) }
-    ensures held { IfOk result (λ x. Holds D.Disk J.Journal OwnsDriven x disk.new) }
+    ensures drives { IfOk result (λ x. AreDriven (S.world supervisor.new)) }
+    ensures held { IfOk result (λ x. OwnsOver D.Disk J.Journal OwnsDriven x disk.new) }
     ensures others { KeepsOthers D.Disk J.Journal disk.old disk.new }
     ensures disk { IsErrOf result SessionFault.Disk → Rose (D.faults disk.old) (D.faults disk.new) }
     ensures edge { IsErrOf result SessionFault.Output → Rose (K.faults sink.old) (K.faults sink.new) }
@@ -162,7 +162,7 @@ where
     ensures quiet_sink { ¬ (IsErrOf result SessionFault.Output) → K.faults sink.new ≡ K.faults sink.old }
 {
     if is_to_roll_back(state.device()) {
-        turn_back(state, backs, ready, disk, sink, runner, supervisor)
+        go_back(state, backs, ready, disk, sink, runner, supervisor)
     } else {
         drop(ready);
         stay(state, disk, sink, runner, supervisor)
@@ -181,18 +181,18 @@ pub(crate) fn fail_again<D: Disk, J: Journal + Drop, K: Sink, R: Runner, S: Supe
 ) -> Result<Driven<J>, SessionFault>
 where
     S::Ready: Drop,
-    requires held { Holds D.Disk J.Journal OwnsActivating state disk.old }
+    requires held { OwnsOver D.Disk J.Journal OwnsActivating state disk.old }
     requires failed { has_three (duty_of (activating_device state)).counts ≡ true }
     requires ready { HasWayBack (activating_device state) backs.now (S.coming ready) }
-    requires drives { Drives (S.world supervisor.old) }
+    requires drives { AreDriven (S.world supervisor.old) }
     requires orderly { IsOrderly (S.world supervisor.old) }
-    requires placed { (p : SessionState) × AsTold R.Runner runner.old (IsAtBootStage p (activating_device state) (S.world supervisor.old)) }
+    requires from_state { (p : SessionState) × AsTold R.Runner runner.old (IsAtBootStage p (activating_device state) (S.world supervisor.old)) }
     ensures course { (p : SessionState) → AsTold R.Runner runner.old (IsAtBootStage p (activating_device state) (S.world supervisor.old)) →
         IsCourse D.Disk J.Journal K.Sink R.Runner disk.old disk.new sink.old sink.new runner.old runner.new p result
         (λ x h q. AsTold R.Runner runner.new (DrivenLeft x h q (S.world supervisor.new))) }
     ensures none { OnErr result (R.living runner.new ≡ []) }
-    ensures drives { IfOk result (λ x. Drives (S.world supervisor.new)) }
-    ensures held { IfOk result (λ x. Holds D.Disk J.Journal OwnsDriven x disk.new) }
+    ensures drives { IfOk result (λ x. AreDriven (S.world supervisor.new)) }
+    ensures held { IfOk result (λ x. OwnsOver D.Disk J.Journal OwnsDriven x disk.new) }
     ensures others { KeepsOthers D.Disk J.Journal disk.old disk.new }
     ensures disk { IsErrOf result SessionFault.Disk → Rose (D.faults disk.old) (D.faults disk.new) }
     ensures edge { IsErrOf result SessionFault.Output → Rose (K.faults sink.old) (K.faults sink.new) }

@@ -1,5 +1,5 @@
 //! The items of the set come up again.
-ghost use Rattle.law_termination.specs.Drives.{Drives};
+ghost use Rattle.law_termination.specs.Drives.{AreDriven};
 ghost use Rattle.std.specs.Prelude.{◌≡◌, [], IfOk, OnErr, IsErrOf, false};
 ghost use Rattle.nuc_base.specs.Faults.{Rose};
 ghost use Rattle.deploy_state.specs.States.{OwnsRolling, rolling_device};
@@ -10,7 +10,7 @@ ghost use Rattle.histories.specs.States.{SessionState};
 ghost use Rattle.histories.specs.Waits.{has_three};
 ghost use Rattle.session_transitions.specs.Enters.{AreReady};
 ghost use Rattle.law_supervisor.specs.Sound.{IsOrderly};
-ghost use Rattle.deploy_state.specs.Objects.{Holds, KeepsOthers};
+ghost use Rattle.deploy_state.specs.Objects.{OwnsOver, KeepsOthers};
 ghost use Rattle.session_boots.specs.Stages.{AsTold};
 
 use crate::driven::{Driven, Presence};
@@ -36,18 +36,18 @@ fn raise_set<D: Disk, J: Journal + Drop, K: Sink, R: Runner, S: Supervise>(
 ) -> Result<Driven<J>, SessionFault>
 where
     S::Ready: Drop,
-    requires held { Holds D.Disk J.Journal OwnsRolling state disk.old }
+    requires held { OwnsOver D.Disk J.Journal OwnsRolling state disk.old }
     requires few { has_three (duty_of (rolling_device state)).counts ≡ false }
     requires ready { AreReady (rolling_device state) (S.coming ready) }
-    requires drives { Drives (S.world supervisor.old) }
+    requires drives { AreDriven (S.world supervisor.old) }
     requires orderly { IsOrderly (S.world supervisor.old) }
-    requires placed { (p : SessionState) × AsTold R.Runner runner.old (IsAtBootStage p (rolling_device state) (S.world supervisor.old)) }
+    requires from_state { (p : SessionState) × AsTold R.Runner runner.old (IsAtBootStage p (rolling_device state) (S.world supervisor.old)) }
     ensures course { (p : SessionState) → AsTold R.Runner runner.old (IsAtBootStage p (rolling_device state) (S.world supervisor.old)) →
         IsCourse D.Disk J.Journal K.Sink R.Runner disk.old disk.new sink.old sink.new runner.old runner.new p result
         (λ x h q. AsTold R.Runner runner.new (DrivenLeft x h q (S.world supervisor.new))) }
     ensures none { OnErr result (R.living runner.new ≡ []) }
-    ensures drives { IfOk result (λ x. Drives (S.world supervisor.new)) }
-    ensures held { IfOk result (λ x. Holds D.Disk J.Journal OwnsDriven x disk.new) }
+    ensures drives { IfOk result (λ x. AreDriven (S.world supervisor.new)) }
+    ensures held { IfOk result (λ x. OwnsOver D.Disk J.Journal OwnsDriven x disk.new) }
     ensures others { KeepsOthers D.Disk J.Journal disk.old disk.new }
     ensures disk { IsErrOf result SessionFault.Disk → Rose (D.faults disk.old) (D.faults disk.new) }
     ensures edge { IsErrOf result SessionFault.Output → Rose (K.faults sink.old) (K.faults sink.new) }
@@ -75,17 +75,17 @@ pub(crate) fn roll_on<D: Disk, J: Journal + Drop, K: Sink, R: Runner, S: Supervi
 ) -> Result<Driven<J>, SessionFault>
 where
     S::Ready: Drop,
-    requires held { Holds D.Disk J.Journal OwnsRolling state disk.old }
+    requires held { OwnsOver D.Disk J.Journal OwnsRolling state disk.old }
     requires ready { AreReady (rolling_device state) (S.coming ready) }
-    requires drives { Drives (S.world supervisor.old) }
+    requires drives { AreDriven (S.world supervisor.old) }
     requires orderly { IsOrderly (S.world supervisor.old) }
-    requires placed { (p : SessionState) × AsTold R.Runner runner.old (IsAtBootStage p (rolling_device state) (S.world supervisor.old)) }
+    requires from_state { (p : SessionState) × AsTold R.Runner runner.old (IsAtBootStage p (rolling_device state) (S.world supervisor.old)) }
     ensures course { (p : SessionState) → AsTold R.Runner runner.old (IsAtBootStage p (rolling_device state) (S.world supervisor.old)) →
         IsCourse D.Disk J.Journal K.Sink R.Runner disk.old disk.new sink.old sink.new runner.old runner.new p result
         (λ x h q. AsTold R.Runner runner.new (DrivenLeft x h q (S.world supervisor.new))) }
     ensures none { OnErr result (R.living runner.new ≡ []) }
-    ensures drives { IfOk result (λ x. Drives (S.world supervisor.new)) }
-    ensures held { IfOk result (λ x. Holds D.Disk J.Journal OwnsDriven x disk.new) }
+    ensures drives { IfOk result (λ x. AreDriven (S.world supervisor.new)) }
+    ensures held { IfOk result (λ x. OwnsOver D.Disk J.Journal OwnsDriven x disk.new) }
     ensures others { KeepsOthers D.Disk J.Journal disk.old disk.new }
     ensures disk { IsErrOf result SessionFault.Disk → Rose (D.faults disk.old) (D.faults disk.new) }
     ensures edge { IsErrOf result SessionFault.Output → Rose (K.faults sink.old) (K.faults sink.new) }

@@ -14,7 +14,7 @@ use Rattle.components.specs.Components.{Components}
 use Rattle.histories.specs.States.{SessionState, state_after}
 use Rattle.histories.specs.TraceEvents.{TraceEvent}
 use Rattle.histories.proofs.Joined.{left-append}
-use Rattle.session_boots.specs.Traces.{Acts}
+use Rattle.session_boots.specs.Traces.{ActTrace}
 use Rattle.session_steady.specs.Serves.{IsServing}
 use Rattle.session.specs.Parts.{IsReturned}
 use Rattle.session.specs.declared.ran.Standing.{Standing}
@@ -47,7 +47,7 @@ module _ {D J : Type 0} (disk : a_disk.Ghosts D) (journal : a_journal.Ghosts J)
     (laws : DiskLaws disk.is_modelled disk.seen disk.may_leave disk.moment disk.left_since) (Clause : Handled → Type 0)
     (old new : Outside D) (p : SessionState) (h k : List TraceEvent) (x : Handled) (bytes : List ℕ) (c : Option (List RunnerEntry)) where
   pub again_left : (r : Turned J) (s : Idle J) (world : Components) (told : Told) (living : List ℕ) → x.bytes ≡ bytes →
-      IsDone disk journal Clause old new p h x → Acts (state_after p h) k new.list c → (r ≡ turned.On s) ⊎ (r ≡ turned.Over statuses.Memory) →
+      IsDone disk journal Clause old new p h x → ActTrace (state_after p h) k new.list c → (r ≡ turned.On s) ⊎ (r ≡ turned.Over statuses.Memory) →
       StandsAgain r (state_after p h) (state_after (state_after p h) k) (idle_device s) world told living →
       HandleLeft disk journal Clause bytes r old (record new { list = c }) p (k ++ h) world told living
   again_left r s world told living is done acts (inl on) left =

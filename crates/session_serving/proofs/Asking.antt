@@ -11,7 +11,7 @@ use Rattle.histories.specs.States.{SessionState, leaves, state_after}
 use Rattle.histories.specs.TraceEvents.{Answer, TraceEvent, InboxAsked, closed, is_closed, is_document, nothing}
 use Rattle.histories.specs.Waits.{has_ended}
 use Rattle.law_serving.proofs.Records.{idle_phase, pending_idle}
-use Rattle.session_boots.specs.Traces.{Acts}
+use Rattle.session_boots.specs.Traces.{ActTrace}
 use Rattle.session_boots.proofs.Acting.{acts_on, grows_none}
 use Rattle.session_shutdown.specs.Stops.{MayStop}
 use Rattle.session_acts.specs.Runs.{IsInTurn}
@@ -22,7 +22,7 @@ use Rattle.session_serving.specs.Places.{IsAsked}
 
 -- it may be asked
 pub asked_here : (p : SessionState) (d : Device) (world : Components) (told : Told) (living : List ℕ) (x : Answer) (list : Option (List RunnerEntry)) →
-    IsAsking p d world told living → 1 ≤ p.turns → Acts p (InboxAsked x ∷ []) list list
+    IsAsking p d world told living → 1 ≤ p.turns → ActTrace p (InboxAsked x ∷ []) list list
 asked_here p d world told living x list a left =
     let s = a.steady in
     record {
@@ -100,8 +100,8 @@ waiting_of p d world told living a = record {
 
 -- behind what was settled
 module _ (p : SessionState) (h : List TraceEvent) (d : Device) (world : Components) (told : Told) (living : List ℕ) (a b : Option (List RunnerEntry)) where
-  pub questioned : (x : Answer) → Acts p h a b → IsAsking (state_after p h) d world told living → IsSame p (state_after p h) → 1 ≤ p.turns →
-      Acts p (InboxAsked x ∷ h) a b
+  pub questioned : (x : Answer) → ActTrace p h a b → IsAsking (state_after p h) d world told living → IsSame p (state_after p h) → 1 ≤ p.turns →
+      ActTrace p (InboxAsked x ∷ h) a b
   questioned x acts asking same left =
       acts_on p h (InboxAsked x ∷ []) a b b acts
       (asked_here (state_after p h) d world told living x b asking (subst (λ (n : ℕ). 1 ≤ n) (sym same.turns) left))
@@ -123,7 +123,7 @@ stop_at p d world told living a may =
       stands = v.stands;
       may = may_stop_all p a.steady.idle_is may;
       orderly = v.orderly;
-      owed = a.quiet.told;
+      owed = a.quiet.owes_none;
       boot = a.steady.boot;
       boot_end = a.steady.boot_end;
       over = a.steady.over;
@@ -147,7 +147,7 @@ closed_stops p d world told living a =
       };
       may = may_stop_all (leaves p (InboxAsked closed)) a.steady.idle_is (a.steady.opened, refl);
       orderly = v.orderly;
-      owed = a.quiet.told;
+      owed = a.quiet.owes_none;
       boot = a.steady.boot;
       boot_end = a.steady.boot_end;
       over = a.steady.over;

@@ -9,11 +9,11 @@ use Rattle.edges.specs.declared.inbox.InboxFault.{InboxFault}
 use Rattle.edges.specs.declared.inbox.InboxFault.TheVariants as faults
 use Rattle.deploy_state.specs.declared.state.Idle.{Idle}
 use Rattle.histories.specs.Courses.{gives_up, is_restart}
-use Rattle.session.specs.Calls.{IsOrEdge, Stays}
+use Rattle.session.specs.Calls.{IsOrEdge, HasNotFallen}
 use Rattle.session.specs.Parts.{IsBack, status_of_ran}
 use Rattle.session.specs.declared.ran.Ran.{Ran}
 use Rattle.session.specs.declared.ran.Ran.TheVariants as ran
-use Rattle.session_serving.specs.Causes.{IsCaused, Watched}
+use Rattle.session_serving.specs.Causes.{IsCaused, Observation}
 use Rattle.session_serving.specs.Turns.{GivesUpBy, StaysRan, status_of_turned}
 use Rattle.session_serving.specs.declared.turned.Turned.{Turned}
 use Rattle.session_serving.specs.declared.turned.Turned.TheVariants as turned
@@ -54,21 +54,21 @@ pub restart_quiet : (status : Status) → is_restart status ≡ true → IsQuiet
 restart_quiet status restarts =
     ((λ is. false≢true (sym (ap is_restart is) ∙ restarts)), (λ is. false≢true (sym (ap is_restart is) ∙ restarts)))
 
-pub stays_same : (a : ℕ) → Stays a a
+pub stays_same : (a : ℕ) → HasNotFallen a a
 stays_same a = omega arith
 
-stays_after : (a b : ℕ) → a ≤ b → Stays a b
+stays_after : (a b : ℕ) → a ≤ b → HasNotFallen a b
 stays_after a b later = omega (arith, later)
 
-stays_rose : (a b : ℕ) → Rose a b → Stays a b
+stays_rose : (a b : ℕ) → Rose a b → HasNotFallen a b
 stays_rose a b rose = omega (arith, rose)
 
-stays_is : (a b : ℕ) → b ≡ a → Stays a b
+stays_is : (a b : ℕ) → b ≡ a → HasNotFallen a b
 stays_is a b is = omega (arith, is)
 
 module _ (is_modelled : Bool) (files : List ℕ → Type 0) (status : Status) where
   -- nothing failed, and no file but those changed
-  pub caused_none : (w : Watched) → IsQuietStatus status → IsCaused is_modelled files status w w
+  pub caused_none : (w : Observation) → IsQuietStatus status → IsCaused is_modelled files status w w
   caused_none w quiet = record {
     disk = λ is. absurd (quiet.0 is);
     edge = λ is. absurd (quiet.1 is);
@@ -80,7 +80,7 @@ module _ (is_modelled : Bool) (files : List ℕ → Type 0) (status : Status) wh
   }
 
   -- behind a part in which nothing failed
-  pub caused_on : (old mid new : Watched) → IsCaused is_modelled files statuses.Done old mid → IsCaused is_modelled files status mid new →
+  pub caused_on : (old mid new : Observation) → IsCaused is_modelled files statuses.Done old mid → IsCaused is_modelled files status mid new →
       IsCaused is_modelled files status old new
   caused_on old mid new one two =
       let disk : mid.disk ≡ old.disk = one.quiet_disk done_quiet.0 done_quiet.1 in
@@ -96,16 +96,16 @@ module _ (is_modelled : Bool) (files : List ℕ → Type 0) (status : Status) wh
         quiet_disk = λ no_disk no_edge. two.quiet_disk no_disk no_edge ∙ disk;
         quiet_edges = λ no_edge. let q = two.quiet_edges no_edge in (q.0 ∙ edges.0, q.1 ∙ edges.1);
         later = (
-          subst (λ (n : ℕ). Stays n new.disk) disk two.later.0,
-          subst (λ (n : ℕ). Stays n new.sink) edges.0 two.later.1,
-          subst (λ (n : ℕ). Stays n new.inbox) edges.1 two.later.2,
+          subst (λ (n : ℕ). HasNotFallen n new.disk) disk two.later.0,
+          subst (λ (n : ℕ). HasNotFallen n new.sink) edges.0 two.later.1,
+          subst (λ (n : ℕ). HasNotFallen n new.inbox) edges.1 two.later.2,
         );
         library_later = omega (arith, first, second);
         others = λ told name own below. two.others told name own below ∙ one.others told name own below;
       }
 
   -- behind it the inbox answered, or was told that a document is done
-  pub caused_then : (old mid : Watched) (inbox : ℕ) → IsQuietStatus status → IsCaused is_modelled files statuses.Done old mid → inbox ≡ mid.inbox →
+  pub caused_then : (old mid : Observation) (inbox : ℕ) → IsQuietStatus status → IsCaused is_modelled files statuses.Done old mid → inbox ≡ mid.inbox →
       IsCaused is_modelled files status old (record mid { inbox = inbox })
   caused_then old mid inbox quiet one same = caused_on old mid (record mid { inbox = inbox }) one (record {
     disk = λ is. absurd (quiet.0 is);
@@ -118,12 +118,12 @@ module _ (is_modelled : Bool) (files : List ℕ → Type 0) (status : Status) wh
   })
 
   -- it ends so
-  pub caused_as : (own : Status) (old new : Watched) → status ≡ own → IsCaused is_modelled files own old new → IsCaused is_modelled files status old new
+  pub caused_as : (own : Status) (old new : Observation) → status ≡ own → IsCaused is_modelled files own old new → IsCaused is_modelled files status old new
   caused_as own old new is one = subst (λ (s : Status). IsCaused is_modelled files s old new) (sym is) one
 
 module _ (is_modelled : Bool) (files : List ℕ → Type 0) where
   -- as one in which nothing failed
-  pub caused_quiet : (status : Status) (old new : Watched) → IsQuietStatus status → IsCaused is_modelled files status old new →
+  pub caused_quiet : (status : Status) (old new : Observation) → IsQuietStatus status → IsCaused is_modelled files status old new →
       IsCaused is_modelled files statuses.Done old new
   caused_quiet status old new quiet one = record {
     disk = λ is. absurd (done_quiet.0 is);
@@ -136,7 +136,7 @@ module _ (is_modelled : Bool) (files : List ℕ → Type 0) where
   }
 
   -- the inbox failed, and then a line may fail too
-  pub caused_inbox : (status : Status) (w : Watched) (sink inbox : ℕ) → status ≡ statuses.Edge → Rose w.inbox inbox → w.sink ≤ sink →
+  pub caused_inbox : (status : Status) (w : Observation) (sink inbox : ℕ) → status ≡ statuses.Edge → Rose w.inbox inbox → w.sink ≤ sink →
       IsCaused is_modelled files status w (record w { sink = sink; inbox = inbox })
   caused_inbox status w sink inbox is rose later = record {
     disk = λ disk. absurd (never disk);
@@ -155,7 +155,7 @@ module _ (is_modelled : Bool) (files : List ℕ → Type 0) where
           other same = cc
 
   -- it gave no answer
-  pub caused_asking : (fault : InboxFault) (status : Status) (w : Watched) (sink inbox : ℕ) → GivesUpBy fault status →
+  pub caused_asking : (fault : InboxFault) (status : Status) (w : Observation) (sink inbox : ℕ) → GivesUpBy fault status →
       (fault ≡ faults.Failed → Rose w.inbox inbox) → (¬ (fault ≡ faults.Failed) → inbox ≡ w.inbox) → w.sink ≤ sink → (status ≢ statuses.Edge → sink ≡ w.sink) →
       IsCaused is_modelled files status w (record w { sink = sink; inbox = inbox })
   caused_asking faults.Failed status w sink inbox is rose quiet later same = caused_inbox status w sink inbox is (rose refl) later
@@ -173,7 +173,7 @@ module _ (is_modelled : Bool) (files : List ℕ → Type 0) where
       }
 
   -- the last line
-  pub caused_line : (status : Status) (w : Watched) (sink : ℕ) → status ≢ statuses.Disk → (status ≡ statuses.Edge → Rose w.sink sink) →
+  pub caused_line : (status : Status) (w : Observation) (sink : ℕ) → status ≢ statuses.Disk → (status ≡ statuses.Edge → Rose w.sink sink) →
       (status ≢ statuses.Edge → sink ≡ w.sink) → w.sink ≤ sink → IsCaused is_modelled files status w (record w { sink = sink })
   caused_line status w sink other rose quiet later = record {
     disk = λ disk. absurd (other disk);

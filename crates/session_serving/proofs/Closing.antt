@@ -13,12 +13,13 @@ use Rattle.device.specs.Devices.{Device}
 use Rattle.histories.specs.Courses.{gives_up, is_restart}
 use Rattle.histories.specs.States.{SessionState, state_after}
 use Rattle.histories.specs.TraceEvents.{TraceEvent, records_of}
-use Rattle.session.specs.Endings.{Ending, Breaks, Closes, Declines, Fails, Forgets, Full, Idle as NothingPending, Reboots, Restarts, Starves, status_of_ending}
-use Rattle.session_serving.specs.Documents.{EndsWith, IsDeployedThere, RecordsEnd}
+use Rattle.session.specs.Endings.{Ending, BySinkFault, ByClose, ByDecline, ByDiskFault, WantAfter, Full, Idle as NothingPending, ByReboot}
+use Rattle.session.specs.Endings.{ByRestart, WantBefore, status_of_ending}
+use Rattle.session_serving.specs.Documents.{IsOwnOrEdge, IsDeployedThere, RecordsEnd}
 use Rattle.session_serving.specs.Parts.{Outside}
-use Rattle.session_serving.specs.Rounds.{AreHandled, Handled, Last, Round, Shut, Spent, Stops, Took, Waited, Fails as CannotAsk, Starves as HasNoMemory}
+use Rattle.session_serving.specs.Rounds.{AreHandled, Handled, LastRound, Round, Shut, Spent, StoppedBy, Took, Waited, InboxFailed, WantOfMemory}
 use Rattle.session_serving.specs.Rounds.{records_of_last, records_of_rounds}
-use Rattle.session_serving.specs.Served.{AreClosed, EndsAs, Finishes, IsFinished, IsHalted, IsSetServed}
+use Rattle.session_serving.specs.Served.{AreClosed, EndsAs, IsResumedOrIdle, IsFinished, IsHalted, IsSetServed}
 
 -- ---- one deployment
 
@@ -27,14 +28,14 @@ abbrev IsOther : Status → Type 0
 IsOther status = (status ≢ statuses.Disk) × (status ≢ statuses.Edge) × (is_restart status ≡ false)
 
 ends_closed : (ending : Ending) (records : List Record) (d : Device) → RecordsEnd ending records d → IsOther (status_of_ending ending) → AreClosed records
-ends_closed (Closes o) records d ends other = inr (o, ends.0)
-ends_closed (Restarts i) records d ends other = absurd (false≢true (sym other.2))
-ends_closed (Reboots i) records d ends other = absurd (false≢true (sym other.2))
-ends_closed Fails records d ends other = absurd (other.0 refl)
-ends_closed Breaks records d ends other = absurd (other.1 refl)
-ends_closed Forgets records d ends other = inr ends
-ends_closed Starves records d ends other = inl ends
-ends_closed (Declines x) records d ends other = inl ends
+ends_closed (ByClose o) records d ends other = inr (o, ends.0)
+ends_closed (ByRestart i) records d ends other = absurd (false≢true (sym other.2))
+ends_closed (ByReboot i) records d ends other = absurd (false≢true (sym other.2))
+ends_closed ByDiskFault records d ends other = absurd (other.0 refl)
+ends_closed BySinkFault records d ends other = absurd (other.1 refl)
+ends_closed WantAfter records d ends other = inr ends
+ends_closed WantBefore records d ends other = inl ends
+ends_closed (ByDecline x) records d ends other = inl ends
 ends_closed (Full at) records d ends other = inl ends
 ends_closed NothingPending records d ends other = inl ends
 
@@ -51,7 +52,7 @@ goes_on_other status stays other = (
 memory_other : (status : Status) → statuses.Memory ≡ status → IsOther status
 memory_other status is = subst IsOther is ((λ same. cc), (λ same. cc), refl)
 
-own_memory : (own : Status) → EndsWith own statuses.Memory → statuses.Memory ≡ own
+own_memory : (own : Status) → IsOwnOrEdge own statuses.Memory → statuses.Memory ≡ own
 own_memory own (inl is) = is.0
 own_memory own (inr edge) = absurd (never edge)
   where
@@ -76,13 +77,13 @@ module _ (content : Option Content) where
   rounds_closed (Took x ∷ rounds) d n e m h = closed_both x.records (records_of_rounds rounds) (document_closed x h.4 (goes_on_other x.status h.2 h.3))
       (rounds_closed rounds x.behind x.after e m h.6)
 
-  last_closed : {D : Type 0} (most : ℕ) (rounds : List Round) (last : Last) (old new : Outside D) (d : Device) →
+  last_closed : {D : Type 0} (most : ℕ) (rounds : List Round) (last : LastRound) (old new : Outside D) (d : Device) →
       EndsAs (IsDeployedThere content) most rounds last statuses.Memory old new d → AreClosed (records_of_last last)
   last_closed most rounds Spent old new d ends = inl refl
   last_closed most rounds Shut old new d ends = inl refl
-  last_closed most rounds (Stops x) old new d ends = document_closed x ends.clause (memory_other x.status (own_memory x.status ends.with_status))
-  last_closed most rounds CannotAsk old new d ends = inl refl
-  last_closed most rounds HasNoMemory old new d ends = inl refl
+  last_closed most rounds (StoppedBy x) old new d ends = document_closed x ends.clause (memory_other x.status (own_memory x.status ends.with_status))
+  last_closed most rounds InboxFailed old new d ends = inl refl
+  last_closed most rounds WantOfMemory old new d ends = inl refl
 
   module _ {D J : Type 0} (disk : a_disk.Ghosts D) (journal : a_journal.Ghosts J) where
     served_closed : (most : ℕ) (old new : Outside D) (p : SessionState) (h : List TraceEvent) →
@@ -101,7 +102,7 @@ module _ {D J : Type 0} (disk : a_disk.Ghosts D) (journal : a_journal.Ghosts J) 
   pub finished_closed : (old new : Outside D) (p : SessionState) (h : List TraceEvent) → IsFinished disk journal old new p h → AreClosed (records_of h)
   finished_closed old new p h f = by f.first
     where
-      by : Finishes p.device (records_of h) (state_after p h).device f.lines f.ending → AreClosed (records_of h)
+      by : IsResumedOrIdle p.device (records_of h) (state_after p h).device f.lines f.ending → AreClosed (records_of h)
       by (inl is) = inr (f.closed is.0)
       by (inr none) = inl none.1
 
@@ -109,4 +110,4 @@ module _ {D J : Type 0} (disk : a_disk.Ghosts D) (journal : a_journal.Ghosts J) 
       status ≡ statuses.Memory → AreClosed (records_of h)
   halted_memory old new p h status s is = ends_closed s.ending (records_of h) _ s.first.ends
       (memory_other (status_of_ending s.ending) (own_memory (status_of_ending s.ending)
-      (subst (λ (z : Status). EndsWith (status_of_ending s.ending) z) is s.with_status)))
+      (subst (λ (z : Status). IsOwnOrEdge (status_of_ending s.ending) z) is s.with_status)))

@@ -5,7 +5,7 @@ use Rattle.std.specs.Option.{IsSomeAnd}
 use Rattle.std.specs.Io.KnownBytes.{Appends}
 use Rattle.std.proofs.Common.{◌≡◌, ◌≢◌, ◌≤◌, ◌∙◌, inl, inr, refl, sym, ap, subst, arith}
 use Rattle.std.proofs.lemmas.Bool.{false≢true}
-use Rattle.disk_model.specs.Disk.{DiskLaws, Leaves}
+use Rattle.disk_model.specs.Disk.{DiskLaws, HasLeft}
 use Rattle.disk_model.specs.declared.disk.Disk as a_disk
 use Rattle.gate_log.specs.Journal.{JournalLaws}
 use Rattle.gate_log.specs.declared.journal.Journal as a_journal
@@ -29,7 +29,7 @@ use Rattle.admission.specs.declared.fault.Declined.{Declined}
 use Rattle.artifact_store.specs.Holding.{AllHoldDevice}
 use Rattle.step_runner.specs.Entries.{Told}
 use Rattle.components.specs.Components.{Components}
-use Rattle.histories.specs.Courses.{IsEnd, Stands, gives_up, is_restart}
+use Rattle.histories.specs.Courses.{IsEnd, IsStateOf, gives_up, is_restart}
 use Rattle.histories.specs.Follows.{IsLast, MayChangeIn}
 use Rattle.histories.specs.Phases.{Generation, current, draining, idle, is_current, is_shutting_down}
 use Rattle.histories.specs.States.{SessionState, state_after}
@@ -40,21 +40,21 @@ use Rattle.law_serving.proofs.Records.{idle_is, pending_idle}
 use Rattle.session_admission.specs.Accepts.{IsOpen}
 use Rattle.session_boots.specs.Ends.{StopsAt}
 use Rattle.session_boots.specs.Lines.{lines_of}
-use Rattle.deploy_state.specs.Objects.{Holds}
+use Rattle.deploy_state.specs.Objects.{OwnsOver}
 use Rattle.session_steady.specs.Serves.{IsServing}
 use Rattle.session_acts.proofs.Entering.{comes_of}
 use Rattle.session.specs.Calls.{IsOrEdge, StandsWhole, call_lines, opening_line}
 use Rattle.session.proofs.Accepted.{accepted_at}
-use Rattle.session.specs.Documents.{AcceptsTaken, Follows, TakesRead}
-use Rattle.session.specs.Endings.{Ending, IsBegun, Starves, is_failing, line_of_ending, status_of_ending}
-use Rattle.session.specs.Endings.{Breaks, Closes, Declines, Fails, Forgets, Full, Idle as NothingPending, Reboots, Restarts}
+use Rattle.session.specs.Documents.{AcceptsTaken, TakenEnding, TakesRead}
+use Rattle.session.specs.Endings.{Ending, IsBegun, WantBefore, is_failing, line_of_ending, status_of_ending}
+use Rattle.session.specs.Endings.{BySinkFault, ByClose, ByDecline, ByDiskFault, WantAfter, Full, Idle as NothingPending, ByReboot, ByRestart}
 use Rattle.session.specs.Parts.{EndsCall, EndsPart, EndsRan, IsGeneration, IsReturned, Part, QuitsPart, RanLeft, status_of_ran}
 use Rattle.session.specs.declared.ran.Ran.{Ran}
 use Rattle.session.specs.declared.ran.Ran.TheVariants as ran
 use Rattle.session.specs.declared.ran.Standing.{Standing}
 use Rattle.session.specs.declared.ran.Standing.TheVariants as standings
-use Rattle.session_serving.specs.Documents.{EndsWith, IsDeployedThere, IsEnded, IsHandled, IsOf, RecordsEnd}
-use Rattle.session_serving.specs.Parts.{AllStandFor, AreOfFiles, Goes, IsStarted, Outside, Shows}
+use Rattle.session_serving.specs.Documents.{IsOwnOrEdge, IsDeployedThere, IsEnded, IsHandled, IsOf, RecordsEnd}
+use Rattle.session_serving.specs.Parts.{AllStandFor, AreOfFiles, HistoryKept, IsStarted, Outside, IsStartShown}
 use Rattle.session_serving.specs.Places.{IsAsked, IsUnopened}
 use Rattle.session_serving.specs.Rounds.{Handled}
 use Rattle.session_serving.specs.Turns.{DocumentLeft, IsReady, StaysRan}
@@ -87,7 +87,7 @@ module _ (p : SessionState) (d : Device) (world : Components) (told : Told) (liv
     );
   }
 
-  asked_stands : Stands p d world told living
+  asked_stands : IsStateOf p d world told living
   asked_stands = (comes_of p d world told living a.turn a.device_is).stands
 
   pub asked_open : IsOpen (alone p) d world told living
@@ -221,28 +221,28 @@ no_opening d is = by d.pending is
     by (Some q) none = absurd cc
 
 -- of a document, where none was pending
-lines_at : (d : Device) (told : List Record) (ending : Ending) → d.pending ≡ None → (ending ≡ Starves → told ≡ []) →
+lines_at : (d : Device) (told : List Record) (ending : Ending) → d.pending ≡ None → (ending ≡ WantBefore → told ≡ []) →
     call_lines d told ending ≡ lines_of d told ++ line_of_ending ending
-lines_at d told Starves is none = sym (ap (λ (l : List Record). lines_of d l ++ []) (none refl))
-lines_at d told (Closes o) is none = ap (λ (l : List ℕ). l ++ (lines_of d told ++ line_of_ending (Closes o))) (no_opening d is)
-lines_at d told (Restarts i) is none = ap (λ (l : List ℕ). l ++ (lines_of d told ++ line_of_ending (Restarts i))) (no_opening d is)
-lines_at d told (Reboots i) is none = ap (λ (l : List ℕ). l ++ (lines_of d told ++ line_of_ending (Reboots i))) (no_opening d is)
-lines_at d told Fails is none = ap (λ (l : List ℕ). l ++ (lines_of d told ++ line_of_ending Fails)) (no_opening d is)
-lines_at d told Breaks is none = ap (λ (l : List ℕ). l ++ (lines_of d told ++ line_of_ending Breaks)) (no_opening d is)
-lines_at d told Forgets is none = ap (λ (l : List ℕ). l ++ (lines_of d told ++ line_of_ending Forgets)) (no_opening d is)
-lines_at d told (Declines x) is none = ap (λ (l : List ℕ). l ++ (lines_of d told ++ line_of_ending (Declines x))) (no_opening d is)
+lines_at d told WantBefore is none = sym (ap (λ (l : List Record). lines_of d l ++ []) (none refl))
+lines_at d told (ByClose o) is none = ap (λ (l : List ℕ). l ++ (lines_of d told ++ line_of_ending (ByClose o))) (no_opening d is)
+lines_at d told (ByRestart i) is none = ap (λ (l : List ℕ). l ++ (lines_of d told ++ line_of_ending (ByRestart i))) (no_opening d is)
+lines_at d told (ByReboot i) is none = ap (λ (l : List ℕ). l ++ (lines_of d told ++ line_of_ending (ByReboot i))) (no_opening d is)
+lines_at d told ByDiskFault is none = ap (λ (l : List ℕ). l ++ (lines_of d told ++ line_of_ending ByDiskFault)) (no_opening d is)
+lines_at d told BySinkFault is none = ap (λ (l : List ℕ). l ++ (lines_of d told ++ line_of_ending BySinkFault)) (no_opening d is)
+lines_at d told WantAfter is none = ap (λ (l : List ℕ). l ++ (lines_of d told ++ line_of_ending WantAfter)) (no_opening d is)
+lines_at d told (ByDecline x) is none = ap (λ (l : List ℕ). l ++ (lines_of d told ++ line_of_ending (ByDecline x))) (no_opening d is)
 lines_at d told (Full at) is none = ap (λ (l : List ℕ). l ++ (lines_of d told ++ line_of_ending (Full at))) (no_opening d is)
 lines_at d told NothingPending is none = ap (λ (l : List ℕ). l ++ (lines_of d told ++ line_of_ending NothingPending)) (no_opening d is)
 
-front_none : (front rest records : List Record) → records ≡ front ++ rest → records ≡ [] → front ≡ []
-front_none [] rest records split none = refl
-front_none (r ∷ front) rest records split none = absurd (never (sym split ∙ none))
+prefix_none : (prefix rest records : List Record) → records ≡ prefix ++ rest → records ≡ [] → prefix ≡ []
+prefix_none [] rest records split none = refl
+prefix_none (r ∷ prefix) rest records split none = absurd (never (sym split ∙ none))
   where
-    never : r ∷ (front ++ rest) ≡ [] → ⊥
+    never : r ∷ (prefix ++ rest) ≡ [] → ⊥
     never e = cc
 
-starves_none : (start : ℕ → ℕ) (taken : Result code.Plan Declined) (ending : Ending) (records : List Record) → Follows start taken ending records →
-    ending ≡ Starves → records ≡ []
+starves_none : (start : ℕ → ℕ) (taken : Result code.Plan Declined) (ending : Ending) (records : List Record) → TakenEnding start taken ending records →
+    ending ≡ WantBefore → records ≡ []
 starves_none start (Err d) ending records follows is = follows.1
 starves_none start (Ok plan) ending records (inl put) is = put.1
 starves_none start (Ok plan) ending records (inr begun) is = absurd (subst (λ (e : Ending). IsBegun e) is begun.0)
@@ -256,7 +256,7 @@ pub own_status : (status own : Status) → IsOrEdge status own → gives_up stat
 own_status status own (inl is) stays = is
 own_status status own (inr edge) stays = absurd (not_edge status stays edge)
 
-pub over_status : (status own : Status) → IsOrEdge status own → EndsCall status → EndsWith own status
+pub over_status : (status own : Status) → IsOrEdge status own → EndsCall status → IsOwnOrEdge own status
 over_status status own (inl is) ends = inl (is, subst EndsCall is ends)
 over_status status own (inr edge) ends = inr edge
 
@@ -268,7 +268,7 @@ end_beside q r a t p is status rose e = subst (λ (s : SessionState). IsEnd s st
   bare = record { parts = e.bare.parts; boot = e.bare.boot };
   stopped = e.stopped;
   cut = e.cut;
-  told = e.told;
+  owes_none = e.owes_none;
   recorded = e.recorded;
   restarts = e.restarts;
   over = e.over;
@@ -291,26 +291,26 @@ no_records (Changed f c b ∷ h) all = absurd all.0
 no_records (StopsAll ∷ h) all = absurd all.0
 
 pub records_end : (p : SessionState) (ending : Ending) (h : List TraceEvent) → EndsPart p ending h → RecordsEnd ending (records_of h) (state_after p h).device
-records_end p (Closes o) h ends = ends
-records_end p (Restarts id) h ends = ends
-records_end p (Reboots id) h ends = ends
-records_end p Fails h ends = tt
-records_end p Breaks h ends = tt
-records_end p Forgets h ends = ends
-records_end p Starves h ends = no_records h ends.0
-records_end p (Declines x) h ends = no_records h ends.0
+records_end p (ByClose o) h ends = ends
+records_end p (ByRestart id) h ends = ends
+records_end p (ByReboot id) h ends = ends
+records_end p ByDiskFault h ends = tt
+records_end p BySinkFault h ends = tt
+records_end p WantAfter h ends = ends
+records_end p WantBefore h ends = no_records h ends.0
+records_end p (ByDecline x) h ends = no_records h ends.0
 records_end p (Full at) h ends = no_records h ends.0
 records_end p NothingPending h ends = no_records h ends.0.0
 
-failing_is : (ending : Ending) → is_failing ending ≡ true → ending ≡ Fails
-failing_is Fails on = refl
-failing_is (Closes o) on = absurd (false≢true on)
-failing_is (Restarts i) on = absurd (false≢true on)
-failing_is (Reboots i) on = absurd (false≢true on)
-failing_is Breaks on = absurd (false≢true on)
-failing_is Forgets on = absurd (false≢true on)
-failing_is Starves on = absurd (false≢true on)
-failing_is (Declines x) on = absurd (false≢true on)
+failing_is : (ending : Ending) → is_failing ending ≡ true → ending ≡ ByDiskFault
+failing_is ByDiskFault on = refl
+failing_is (ByClose o) on = absurd (false≢true on)
+failing_is (ByRestart i) on = absurd (false≢true on)
+failing_is (ByReboot i) on = absurd (false≢true on)
+failing_is BySinkFault on = absurd (false≢true on)
+failing_is WantAfter on = absurd (false≢true on)
+failing_is WantBefore on = absurd (false≢true on)
+failing_is (ByDecline x) on = absurd (false≢true on)
 failing_is (Full at) on = absurd (false≢true on)
 failing_is NothingPending on = absurd (false≢true on)
 
@@ -324,7 +324,7 @@ module _ {D J : Type 0} (disk : a_disk.Ghosts D) (journal : a_journal.Ghosts J)
     (laws : DiskLaws disk.is_modelled disk.seen disk.may_leave disk.moment disk.left_since)
     (own : JournalLaws journal.files journal.entries journal.holds_none journal.is_damaged journal.stands journal.end) (apart : LieElsewhere journal.files)
     (files_own : AreOfFiles journal.files journal.entries) (content : Option Content) (idle : Idle J) (bytes : List ℕ) (old new : Outside D)
-    (held : Holds disk journal OwnsIdle idle old.disk) (p : SessionState) (world : Components) (told : Told) (living : List ℕ)
+    (held : OwnsOver disk journal OwnsIdle idle old.disk) (p : SessionState) (world : Components) (told : Told) (living : List ℕ)
     (asked : IsAsked document p (idle_device idle) world told living) where
   abbrev Start : ℕ → ℕ
   Start = start_of journal.end journal.number journal.turns (idle_log idle) (idle_device idle)
@@ -334,7 +334,7 @@ module _ {D J : Type 0} (disk : a_disk.Ghosts D) (journal : a_journal.Ghosts J)
       (λ c left. in_hand_stands laws own idle.log old.disk (idle_device idle) held.0 c left)
 
   -- the journal that is in hand
-  starts_here : Shows disk journal old.disk old.disk (idle_device idle) Start
+  starts_here : IsStartShown disk journal old.disk old.disk (idle_device idle) Start
   starts_here told_is =
       let c = disk.seen old.disk in
       let left = laws.reads old.disk told_is in (
@@ -348,10 +348,10 @@ module _ {D J : Type 0} (disk : a_disk.Ghosts D) (journal : a_journal.Ghosts J)
       status leaves)
       (alike : ServesAlike p part.history) (taken : Result code.Plan Declined)
       (takes : (o : Origin) → (idle_device idle).origin ≡ Some o → TakesRead (idle_device idle) o content old.library new.library bytes taken)
-      (follows : Follows Start taken part.ending (records_of part.history))
-      (failed : part.ending ≡ Fails → Rose old.faults new.faults) (disk_cause : HasDiskFailed taken → Rose old.faults new.faults)
+      (follows : TakenEnding Start taken part.ending (records_of part.history))
+      (failed : part.ending ≡ ByDiskFault → Rose old.faults new.faults) (disk_cause : HasDiskFailed taken → Rose old.faults new.faults)
       (library_cause : HasLibraryFailed taken → Rose old.library new.library) (library_later : old.library ≤ new.library)
-      (whole : AllHoldDevice (disk.may_leave old.disk) p.device → Leaves disk.moment disk.left_since old.disk new.disk
+      (whole : AllHoldDevice (disk.may_leave old.disk) p.device → HasLeft disk.moment disk.left_since old.disk new.disk
       (StandsWhole journal.entries p.device (records_of part.history)))
       (accepts : AcceptsTaken journal.entries disk.may_leave disk.moment disk.left_since old.disk new.disk (idle_device idle) Start taken part.ending
       (records_of part.history)) where
@@ -363,10 +363,10 @@ module _ {D J : Type 0} (disk : a_disk.Ghosts D) (journal : a_journal.Ghosts J)
       bytes = bytes;
       device = idle_device idle;
       records = records_of H;
-      told = part.prints.told;
-      untold = part.prints.rest;
+      printed_records = part.prints.printed_records;
+      unprinted_records = part.prints.rest;
       behind = (state_after p H).device;
-      lines = lines_of (idle_device idle) part.prints.told ++ line_of_ending part.ending;
+      lines = lines_of (idle_device idle) part.prints.printed_records ++ line_of_ending part.ending;
       status = status_of_ending part.ending;
       before = old.library;
       after = new.library;
@@ -378,7 +378,7 @@ module _ {D J : Type 0} (disk : a_disk.Ghosts D) (journal : a_journal.Ghosts J)
     same : (state_after p H).device ≡ (state_after (alone p) H).device
     same = device_same p H alike
 
-    goes : Goes disk journal old.disk new.disk old.list new.list p H
+    goes : HistoryKept disk journal old.disk new.disk old.list new.list p H
     goes = record {
       proper = alike.proper;
       run = subst (λ (x : Device). Run p.device (records_of H) x) (sym same) part.trace.run;
@@ -407,11 +407,12 @@ module _ {D J : Type 0} (disk : a_disk.Ghosts D) (journal : a_journal.Ghosts J)
     }
 
     -- its lines
-    lines_is : call_lines p.device part.prints.told part.ending ≡ X.lines
+    lines_is : call_lines p.device part.prints.printed_records part.ending ≡ X.lines
     lines_is =
-        ap (λ (x : Device). call_lines x part.prints.told part.ending) asked.device_is
-        ∙ lines_at (idle_device idle) part.prints.told part.ending held.1
-        (λ is. front_none part.prints.told part.prints.rest (records_of H) part.prints.split (starves_none Start taken part.ending (records_of H) follows is))
+        ap (λ (x : Device). call_lines x part.prints.printed_records part.ending) asked.device_is
+        ∙ lines_at (idle_device idle) part.prints.printed_records part.ending held.1
+        (λ is. prefix_none part.prints.printed_records part.prints.rest (records_of H) part.prints.split
+        (starves_none Start taken part.ending (records_of H) follows is))
 
     starts : IsStarted disk journal old.disk new.disk X
     starts = (
@@ -468,7 +469,7 @@ module _ {D J : Type 0} (disk : a_disk.Ghosts D) (journal : a_journal.Ghosts J)
       lines = X.lines;
       says = inl refl;
       writes = record {
-        front = subst (λ (l : List ℕ). AppendsPrefix old.held new.held l) lines_is part.prints.front;
+        prefix = subst (λ (l : List ℕ). AppendsPrefix old.held new.held l) lines_is part.prints.prefix;
         all = λ other. subst (λ (l : List ℕ). Appends old.held new.held l) lines_is (part.prints.whole other);
       };
       is_of = is_of;
@@ -483,10 +484,10 @@ module _ {D J : Type 0} (disk : a_disk.Ghosts D) (journal : a_journal.Ghosts J)
       (status_of_ran r) (λ ending q. RanLeft p.generation r (is_failing ending) q later now lives))
       (alike : ServesAlike p part.history) (taken : Result code.Plan Declined)
       (takes : (o : Origin) → (idle_device idle).origin ≡ Some o → TakesRead (idle_device idle) o content old.library new.library bytes taken)
-      (follows : Follows Start taken part.ending (records_of part.history))
-      (failed : part.ending ≡ Fails → Rose old.faults new.faults) (disk_cause : HasDiskFailed taken → Rose old.faults new.faults)
+      (follows : TakenEnding Start taken part.ending (records_of part.history))
+      (failed : part.ending ≡ ByDiskFault → Rose old.faults new.faults) (disk_cause : HasDiskFailed taken → Rose old.faults new.faults)
       (library_cause : HasLibraryFailed taken → Rose old.library new.library) (library_later : old.library ≤ new.library)
-      (whole : AllHoldDevice (disk.may_leave old.disk) p.device → Leaves disk.moment disk.left_since old.disk new.disk
+      (whole : AllHoldDevice (disk.may_leave old.disk) p.device → HasLeft disk.moment disk.left_since old.disk new.disk
       (StandsWhole journal.entries p.device (records_of part.history)))
       (accepts : AcceptsTaken journal.entries disk.may_leave disk.moment disk.left_since old.disk new.disk (idle_device idle) Start taken part.ending
       (records_of part.history)) where

@@ -19,10 +19,10 @@ use Rattle.histories.specs.Courses.{IsEnd, is_restart}
 use Rattle.histories.specs.States.{SessionState, state_after}
 use Rattle.histories.specs.TraceEvents.{TraceEvent, records_of}
 use Rattle.histories.proofs.Joined.{left-append, records-append}
-use Rattle.session_boots.specs.Traces.{Acts}
+use Rattle.session_boots.specs.Traces.{ActTrace}
 use Rattle.session_serving.specs.Documents.{IsDone, IsEnded, IsHandled, IsLastDone, IsOf}
-use Rattle.session_serving.specs.Parts.{Ends, Outside}
-use Rattle.session_serving.specs.Rounds.{Handled, SaysStopped, Starves, inbox_fault_line}
+use Rattle.session_serving.specs.Parts.{CallEnded, Outside}
+use Rattle.session_serving.specs.Rounds.{Handled, SaysStopped, WantOfMemory, inbox_fault_line}
 use Rattle.session_serving.specs.Turns.{EndsBy}
 use Rattle.session_serving.proofs.Joining.{Stood, goes_acts, goes_both, holds_acts, holds_both, prefix_behind, stands_acts, sure_acts, sure_run}
 
@@ -60,7 +60,7 @@ module _ {D J : Type 0} (disk : a_disk.Ghosts D) (journal : a_journal.Ghosts J)
 
   -- and what happens behind it without a record
   of_then : (list : Option (List RunnerEntry)) (held : Option (List ℕ)) (answered : Answered) (waiting : Option Waiting) (c : Option (List RunnerEntry))
-      (g : List TraceEvent) → IsOf disk journal Clause old new p h x → Acts (state_after p h) g new.list c →
+      (g : List TraceEvent) → IsOf disk journal Clause old new p h x → ActTrace (state_after p h) g new.list c →
       IsOf disk journal Clause old (record new { list = list; held = held; answered = answered; waiting = waiting }) p (g ++ h) x
   of_then list held answered waiting c g o acts = record {
     records = records-append g h ∙ ap (λ (l : List Record). records_of h ++ l) acts.none ∙ append-nil (records_of h) ∙ o.records;
@@ -93,7 +93,7 @@ module _ {D J : Type 0} (disk : a_disk.Ghosts D) (journal : a_journal.Ghosts J)
   }
 
   -- and then something without a record
-  pub done_then : (c : Option (List RunnerEntry)) (g : List TraceEvent) → IsDone disk journal Clause old new p h x → Acts (state_after p h) g new.list c →
+  pub done_then : (c : Option (List RunnerEntry)) (g : List TraceEvent) → IsDone disk journal Clause old new p h x → ActTrace (state_after p h) g new.list c →
       (state_after (state_after p h) g).turns ≡ (state_after p h).turns → IsDone disk journal Clause old (record new { list = c }) p (g ++ h) x
   done_then c g d acts turns =
       let i = d.handled in
@@ -118,7 +118,7 @@ module _ {D J : Type 0} (disk : a_disk.Ghosts D) (journal : a_journal.Ghosts J)
 
   -- it could not be done
   pub done_fails : (c : Option (List RunnerEntry)) (told : Option (List ℕ)) (answered : Answered) (waiting : Option Waiting) (g : List TraceEvent)
-      (status : Status) (l : List ℕ) → l ≡ inbox_fault_line → IsHandled disk journal Clause old new p h x → Acts (state_after p h) g new.list c →
+      (status : Status) (l : List ℕ) → l ≡ inbox_fault_line → IsHandled disk journal Clause old new p h x → ActTrace (state_after p h) g new.list c →
       AppendsPrefix new.held told l →
       status ≡ statuses.Edge → answered ≡ old.answered → waiting ≡ old.waiting → IsEnd (state_after (state_after p h) g) statuses.Edge false →
       IsLastDone disk journal Clause old (record new { list = c; held = told; answered = answered; waiting = waiting }) p (g ++ h) x status false
@@ -136,7 +136,7 @@ module _ {D J : Type 0} (disk : a_disk.Ghosts D) (journal : a_journal.Ghosts J)
               (stands_acts disk journal laws new.disk new.list c (state_after p h) g i.stands acts);
           lines = x.lines ++ l;
           says = inr (ap (λ (m : List ℕ). x.lines ++ m) l_is, is);
-          writes = record { front = prefix_behind old.held new.held told x.lines l i.lines line; all = λ other. absurd (other is) };
+          writes = record { prefix = prefix_behind old.held new.held told x.lines l i.lines line; all = λ other. absurd (other is) };
           is_of = of_then c told answered waiting c g i.is_of acts;
           with_status = inr is;
           cause = λ on. absurd (false≢true on);
@@ -158,7 +158,7 @@ module _ {D J : Type 0} (disk : a_disk.Ghosts D) (journal : a_journal.Ghosts J)
       stable = i.stable;
       lines = i.lines;
       says = i.says;
-      writes = record { front = i.writes.front; all = i.writes.all };
+      writes = record { prefix = i.writes.prefix; all = i.writes.all };
       is_of = of_as new.list new.held answered waiting i.is_of;
       with_status = i.with_status;
       cause = i.cause;
@@ -182,7 +182,7 @@ module _ {D J : Type 0} (disk : a_disk.Ghosts D) (journal : a_journal.Ghosts J)
       lines = i.lines ++ l;
       says = inr (ap (λ (k : List ℕ). k ++ l) (said_all x again i.lines restarts i.says) ∙ ap (λ (m : List ℕ). x.lines ++ m) l_is, is);
       writes = record {
-        front = prefix_behind old.held new.held told i.lines l
+        prefix = prefix_behind old.held new.held told i.lines l
             (i.writes.all (λ edge. absurd (false≢true (sym (ap is_restart edge) ∙ restarts)))) line;
         all = λ other. absurd (other is);
       };
@@ -199,15 +199,15 @@ module _ {D J : Type 0} (disk : a_disk.Ghosts D) (journal : a_journal.Ghosts J)
 module _ {D J : Type 0} (disk : a_disk.Ghosts D) (journal : a_journal.Ghosts J)
     (laws : DiskLaws disk.is_modelled disk.seen disk.may_leave disk.moment disk.left_since) (Clause : Handled → Type 0) where
   pub starved : (old : Outside D) (b : Option (List RunnerEntry)) (p : SessionState) (h : List TraceEvent) → Stood disk journal laws old.disk p.device →
-      Acts p h old.list b → IsEnd (state_after p h) statuses.Memory false →
-      Ends disk journal (EndsBy Clause) old (record old { list = b }) p h Starves statuses.Memory false
+      ActTrace p h old.list b → IsEnd (state_after p h) statuses.Memory false →
+      CallEnded disk journal (EndsBy Clause) old (record old { list = b }) p h WantOfMemory statuses.Memory false
   starved old b p h stands acts end = record {
     goes = goes_acts disk journal laws old.disk old.list b p h stands acts;
     sure = sure_acts disk journal laws old.disk old.list b p h stands acts;
     stable = λ none. stands_acts disk journal laws old.disk old.list b p h stands acts;
     lines = [];
     says = refl;
-    writes = record { front = ([], [], refl, Appends-nil old.held); all = λ other. Appends-nil old.held };
+    writes = record { prefix = ([], [], refl, Appends-nil old.held); all = λ other. Appends-nil old.held };
     records = acts.none;
     why = (refl, record { answered = refl; waiting = refl; library = refl });
     starts = tt;

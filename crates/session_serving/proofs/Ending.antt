@@ -19,33 +19,35 @@ use Rattle.histories.specs.Courses.{IsEnd, is_restart}
 use Rattle.histories.specs.States.{SessionState, state_after}
 use Rattle.histories.specs.TraceEvents.{Answer, TraceEvent, records_of}
 use Rattle.histories.proofs.Joined.{left-append, records-append}
-use Rattle.session_boots.specs.Traces.{Acts, StandsForPrefix}
+use Rattle.session_boots.specs.Traces.{ActTrace, StandsForPrefix}
 use Rattle.session.specs.Calls.{IsOrEdge}
-use Rattle.session_serving.specs.Parts.{Ends, Goes, IsStarted, IsSure, Outside, Turns}
-use Rattle.session_serving.specs.Rounds.{AreHandled, AreStarted, Fails, Handled, Last, Round, Shut, Spent, Starves, Stops, lines_of_rounds, records_of_last}
-use Rattle.session_serving.specs.Rounds.{SaysLast, asked_of_last, questions_of, records_of_rounds, round_of_last, untold_of_last}
+use Rattle.session_serving.specs.Parts.{CallEnded, HistoryKept, IsStarted, IsSure, Outside, TurnsPassed}
+use Rattle.session_serving.specs.Rounds.{AreHandled, AreStarted, InboxFailed, Handled, LastRound, Round, Shut, Spent, WantOfMemory, StoppedBy}
+use Rattle.session_serving.specs.Rounds.{lines_of_rounds, records_of_last}
+use Rattle.session_serving.specs.Rounds.{SaysLast, asked_of_last, questions_of, records_of_rounds, round_of_last, unprinted_of_last}
 use Rattle.session_serving.specs.Served.{EndsAs, IsSetServed, ended_line}
-use Rattle.session_serving.specs.Turns.{EndsBy, Shuts}
+use Rattle.session_serving.specs.Turns.{EndsBy, InboxFoundClosed}
 use Rattle.session_serving.proofs.Questions.{not_asked, questions-append}
 use Rattle.session_serving.proofs.Joining.{Stood, goes_acts, goes_both, holds_acts, kept_held, prefix_behind, stands_acts, started_on, sure_behind, sure_run}
 
-pub ended_as : (Clause : Handled → Type 0) (most : ℕ) {D : Type 0} (rounds : List Round) (last : Last) (status : Status) (old new : Outside D) (d : Device) →
+pub ended_as : (Clause : Handled → Type 0) (most : ℕ) {D : Type 0} (rounds : List Round) (last : LastRound)
+    (status : Status) (old new : Outside D) (d : Device) →
     EndsBy Clause last status old new d → EndsAs Clause most rounds last status old new d
 ended_as Clause most rounds Spent status old new d by = absurd by
 ended_as Clause most rounds Shut status old new d by = absurd by
-ended_as Clause most rounds (Stops x) status old new d by = by
-ended_as Clause most rounds Fails status old new d by = by
-ended_as Clause most rounds Starves status old new d by = by
+ended_as Clause most rounds (StoppedBy x) status old new d by = by
+ended_as Clause most rounds InboxFailed status old new d by = by
+ended_as Clause most rounds WantOfMemory status old new d by = by
 
 -- only a call that was asked often enough prints that
-pub not_spent : (Clause : Handled → Type 0) {D : Type 0} (last : Last) (status : Status) (old new : Outside D) (d : Device) →
+pub not_spent : (Clause : Handled → Type 0) {D : Type 0} (last : LastRound) (status : Status) (old new : Outside D) (d : Device) →
     EndsBy Clause last status old new d →
     last ≡ Spent → ⊥
 not_spent Clause Spent status old new d by is = by
 not_spent Clause Shut status old new d by is = by
-not_spent Clause (Stops x) status old new d by is = cc
-not_spent Clause Fails status old new d by is = cc
-not_spent Clause Starves status old new d by is = cc
+not_spent Clause (StoppedBy x) status old new d by is = cc
+not_spent Clause InboxFailed status old new d by is = cc
+not_spent Clause WantOfMemory status old new d by is = cc
 
 pub over_none : (status : Status) → IsOrEdge status statuses.TurnsOver → is_restart status ≡ false
 over_none status (inl is) = ap is_restart is
@@ -53,17 +55,18 @@ over_none status (inr is) = ap is_restart is
 
 module _ {D J : Type 0} (disk : a_disk.Ghosts D) (journal : a_journal.Ghosts J)
     (laws : DiskLaws disk.is_modelled disk.seen disk.may_leave disk.moment disk.left_since) (Clause : Handled → Type 0) where
-  pub ended : (most : ℕ) (old to new : Outside D) (p : SessionState) (h g : List TraceEvent) (rounds : List Round) (last : Last) (status : Status) (rose : Bool)
-      (lines : List ℕ) → Turns disk journal Clause old to p h rounds → length rounds + asked_of_last last ≤ most →
-      Goes disk journal to.disk new.disk to.list new.list (state_after p h) g → IsSure disk journal new.disk (state_after p h) g →
+  pub ended : (most : ℕ) (old to new : Outside D) (p : SessionState) (h g : List TraceEvent) (rounds : List Round) (last : LastRound)
+      (status : Status) (rose : Bool)
+      (lines : List ℕ) → TurnsPassed disk journal Clause old to p h rounds → length rounds + asked_of_last last ≤ most →
+      HistoryKept disk journal to.disk new.disk to.list new.list (state_after p h) g → IsSure disk journal new.disk (state_after p h) g →
       records_of g ≡ records_of_last last → EndsAs Clause most rounds last status to new (state_after p h).device → AppendsPrefix to.held new.held lines →
       (status ≢ statuses.Edge → Appends to.held new.held lines) → (last ≡ Spent → lines ≡ ended_line most) →
       SaysLast last status lines →
-      (untold_of_last last ≡ [] → Stood disk journal laws new.disk (state_after (state_after p h) g).device) →
+      (unprinted_of_last last ≡ [] → Stood disk journal laws new.disk (state_after (state_after p h) g).device) →
       AreStarted (IsStarted disk journal to.disk new.disk) (round_of_last last) → (rose ≡ true → Rose to.faults new.faults) →
       IsEnd (state_after (state_after p h) g) status rose →
       IsSetServed disk journal Clause most old new p (g ++ h) status
-  ended most old to new p h g rounds last status rose lines turns few tail sure records ends front whole spent says stable shown cause end =
+  ended most old to new p h g rounds last status rose lines turns few tail sure records ends prefix whole spent says stable shown cause end =
       let left = left-append p g h in
       record {
         goes = goes_both disk journal laws old.disk to.disk new.disk old.list to.list new.list p h g turns.goes turns.holds tail;
@@ -87,7 +90,7 @@ module _ {D J : Type 0} (disk : a_disk.Ghosts D) (journal : a_journal.Ghosts J)
         lines = lines;
         says = says;
         writes = record {
-          front = prefix_behind old.held to.held new.held (lines_of_rounds rounds) lines turns.lines front;
+          prefix = prefix_behind old.held to.held new.held (lines_of_rounds rounds) lines turns.lines prefix;
           all = λ other. Appends-trans old.held to.held new.held (lines_of_rounds rounds) lines turns.lines (whole other);
         };
         spent = spent;
@@ -98,7 +101,7 @@ module _ {D J : Type 0} (disk : a_disk.Ghosts D) (journal : a_journal.Ghosts J)
 
   -- behind what brought the set up
   pub served_behind : (most : ℕ) (old new : Outside D) (p : SessionState) (k h : List TraceEvent) (status : Status) →
-      Stood disk journal laws old.disk p.device → Acts p k old.list old.list → (state_after p k).turns ≡ p.turns →
+      Stood disk journal laws old.disk p.device → ActTrace p k old.list old.list → (state_after p k).turns ≡ p.turns →
       IsSetServed disk journal Clause most old new (state_after p k) h status → IsSetServed disk journal Clause most old new p (h ++ k) status
   served_behind most old new p k h status stands acts turns s =
       let tail = goes_acts disk journal laws old.disk old.list old.list p k stands acts in
@@ -124,7 +127,7 @@ module _ {D J : Type 0} (disk : a_disk.Ghosts D) (journal : a_journal.Ghosts J)
         ends = s.ends;
         lines = s.lines;
         says = s.says;
-        writes = record { front = s.writes.front; all = s.writes.all };
+        writes = record { prefix = s.writes.prefix; all = s.writes.all };
         spent = s.spent;
         rose = s.rose;
         cause = s.cause;
@@ -134,16 +137,16 @@ module _ {D J : Type 0} (disk : a_disk.Ghosts D) (journal : a_journal.Ghosts J)
   -- the inbox was closed, and all were stopped
   pub served_shut : (most : ℕ) (old to mid : Outside D) (p : SessionState) (h before g k : List TraceEvent) (rounds : List Round)
       (list : Option (List RunnerEntry)) →
-      h ≡ g ++ before → Turns disk journal Clause old to p before rounds → Shuts disk journal Clause to mid (state_after p before) g →
+      h ≡ g ++ before → TurnsPassed disk journal Clause old to p before rounds → InboxFoundClosed disk journal Clause to mid (state_after p before) g →
       length rounds + 1 ≤ most →
-      Acts (state_after p h) k mid.list list → (state_after p h).device.pending ≡ None → IsEnd (state_after (state_after p h) k) statuses.Done false →
+      ActTrace (state_after p h) k mid.list list → (state_after p h).device.pending ≡ None → IsEnd (state_after (state_after p h) k) statuses.Done false →
       (j : List TraceEvent) × IsSetServed disk journal Clause most old (record mid { list = list }) p j statuses.Done
   served_shut most old to mid p h before g k rounds list split turns shuts few acts idle end =
       let q = state_after p before in
       let same : state_after p h ≡ state_after q g = ap (λ (l : List TraceEvent). state_after p l) split ∙ left-append p g before in
       let stays : (state_after q g).device ≡ q.device = subst (λ (l : List Record). Run q.device l (state_after q g).device) shuts.none shuts.goes.run in
       let none = sym (ap (λ (x : Device). x.pending) stays) ∙ ap (λ (x : SessionState). x.device.pending) (sym same) ∙ idle in
-      let own : Acts (state_after q g) k mid.list list = subst (λ (x : SessionState). Acts x k mid.list list) same acts in
+      let own : ActTrace (state_after q g) k mid.list list = subst (λ (x : SessionState). ActTrace x k mid.list list) same acts in
       let tail = goes_both disk journal laws to.disk mid.disk mid.disk to.list mid.list list q g k shuts.goes shuts.holds
       (goes_acts disk journal laws mid.disk mid.list list (state_after q g) k shuts.stands own) in
       let stands : Stood disk journal laws mid.disk (state_after q (k ++ g)).device = subst (λ (x : SessionState). Stood disk journal laws mid.disk x.device)
@@ -169,13 +172,14 @@ module _ {D J : Type 0} (disk : a_disk.Ghosts D) (journal : a_journal.Ghosts J)
       )
 
   -- the call ended before
-  pub served_over : (most : ℕ) (old to new : Outside D) (p : SessionState) (h before g : List TraceEvent) (rounds : List Round) (last : Last) (status : Status)
-      (rose : Bool) → h ≡ g ++ before → Turns disk journal Clause old to p before rounds →
-      Ends disk journal (EndsBy Clause) to new (state_after p before) g last status rose →
+  pub served_over : (most : ℕ) (old to new : Outside D) (p : SessionState) (h before g : List TraceEvent) (rounds : List Round) (last : LastRound)
+      (status : Status)
+      (rose : Bool) → h ≡ g ++ before → TurnsPassed disk journal Clause old to p before rounds →
+      CallEnded disk journal (EndsBy Clause) to new (state_after p before) g last status rose →
       length rounds + asked_of_last last ≤ most → (j : List TraceEvent) × IsSetServed disk journal Clause most old new p j status
   served_over most old to new p h before g rounds last status rose split turns e few = (
     g ++ before,
     ended most old to new p before g rounds last status rose e.lines turns few e.goes e.sure e.records
-        (ended_as Clause most rounds last status to new (state_after p before).device e.why) e.writes.front e.writes.all
+        (ended_as Clause most rounds last status to new (state_after p before).device e.why) e.writes.prefix e.writes.all
         (λ is. absurd (not_spent Clause last status to new (state_after p before).device e.why is)) e.says e.stable e.starts e.cause e.end,
   )

@@ -21,7 +21,7 @@ use Rattle.histories.specs.TraceEvents.{TraceEvent, Changed}
 use Rattle.law_serving.proofs.Records.{idle_is}
 use Rattle.law_supervisor.specs.Keeps.{Owns}
 use Rattle.law_supervisor.specs.Sound.{IsOrderly}
-use Rattle.session_boots.specs.Traces.{Acts}
+use Rattle.session_boots.specs.Traces.{ActTrace}
 use Rattle.session_boots.proofs.Acting.{grows_none}
 use Rattle.session_steady.specs.Serves.{IsServing}
 use Rattle.session_transitions.proofs.Shut.{changed_answered}
@@ -60,7 +60,7 @@ none_begun w (p ∷ ps) quiet shut =
 -- ---- where nothing is pending
 
 abbrev idle_duty : Device → Duty
-idle_duty d = record { origin = d.origin; phase = idle; items = d.set; counts = no_failures; boots = []; turn = None; begun = false }
+idle_duty d = record { origin = d.origin; phase = idle; items = d.set; counts = no_failures; boots = []; next_bootstrap = None; begun = false }
 
 duty_is : (d : Device) → d.pending ≡ None → duty_of d ≡ idle_duty d
 duty_is d is = by d.pending is
@@ -91,7 +91,7 @@ module _ (first : HasFirst) (d : Device) (o : Origin) (origin : d.origin ≡ Som
         recorded = refl;
         few = refl;
         mode = refl;
-        told = r.quiet.told;
+        owes_none = r.quiet.owes_none;
         answered = none_begun p.world p.world.parts r.quiet.none (ap has_answered r.stands.world_is ∙ r.stands.answered);
       }
 
@@ -102,7 +102,7 @@ module _ (first : HasFirst) (d : Device) (o : Origin) (origin : d.origin ≡ Som
       (subst (λ (x : Duty). MayChange x p fitted no_failures true) (sym same) may_in, (λ cut. absurd (false≢true (sym r.cut ∙ cut))), r.over)
 
   pub opened : ((n : ℕ) → Owns (changed_to fitted no_failures true p.world) n ↔ Owns p.world n) → IsOrderly (changed_to fitted no_failures true p.world) →
-      (h : List TraceEvent) × Acts p h told.list told.list × IsServing (state_after p h) d (changed_to fitted no_failures true world) told living
+      (h : List TraceEvent) × ActTrace p h told.list told.list × IsServing (state_after p h) d (changed_to fitted no_failures true world) told living
       × ((state_after p h).turns ≡ p.turns)
   opened owners orderly =
       let r = u.returned in

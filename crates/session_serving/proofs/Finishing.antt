@@ -3,7 +3,7 @@ use Rattle.std.specs.Prelude.{◌⊎◌, ℕ, Bool, true, false, List, [], Optio
 use Rattle.std.proofs.Common.{◌≡◌, ◌≢◌, ◌∙◌, inl, inr, refl, sym, ap, subst}
 use Rattle.std.proofs.KnownBytes.{Appends-nil}
 use Rattle.std.proofs.lemmas.Bool.{false≢true}
-use Rattle.disk_model.specs.Disk.{DiskLaws, Leaves}
+use Rattle.disk_model.specs.Disk.{DiskLaws, HasLeft}
 use Rattle.disk_model.specs.declared.disk.Disk as a_disk
 use Rattle.gate_log.specs.Journal.{JournalLaws}
 use Rattle.gate_log.specs.declared.journal.Journal as a_journal
@@ -30,15 +30,16 @@ use Rattle.session_boots.specs.Stands.{IsAtBootStage}
 use Rattle.session_boots.proofs.Acting.{acts_none}
 use Rattle.session_startup.specs.Ended.{ClosesAs}
 use Rattle.session.specs.Calls.{IsOrEdge, StandsWhole, call_lines}
-use Rattle.session.specs.Endings.{Ending, Breaks, Closes, Declines, Fails, Forgets, Full, Idle as NothingPending, Reboots, Restarts, Resumes, Starves}
-use Rattle.session.specs.Endings.{ResumesBy, is_failing, status_of_ending}
+use Rattle.session.specs.Endings.{Ending, BySinkFault, ByClose, ByDecline, ByDiskFault, WantAfter, Full, Idle as NothingPending, ByReboot}
+use Rattle.session.specs.Endings.{ByRestart, ResumeEnding, WantBefore}
+use Rattle.session.specs.Endings.{PendingEnding, is_failing, status_of_ending}
 use Rattle.session.specs.Parts.{EndsPart, EndsRan, IsGeneration, IsUnbegun, Part, RanLeft, status_of_ran}
 use Rattle.session.specs.declared.ran.Ran.{Ran}
 use Rattle.session.specs.declared.ran.Ran.TheVariants as ran
 use Rattle.session.specs.declared.ran.Standing.{Standing}
 use Rattle.session.specs.declared.ran.Standing.TheVariants as standings
-use Rattle.session.proofs.Places.{front_returned}
-use Rattle.session_serving.specs.Parts.{AllStandFor, AreOfFiles, Goes, Outside}
+use Rattle.session.proofs.States.{stage_returned}
+use Rattle.session_serving.specs.Parts.{AllStandFor, AreOfFiles, HistoryKept, Outside}
 use Rattle.session_serving.specs.Places.{IsBegun, IsUnopened}
 use Rattle.session_serving.specs.Documents.{RecordsEnd}
 use Rattle.session_serving.specs.Served.{FinishLeft, IsPendingResumed}
@@ -94,7 +95,7 @@ module _ (p : SessionState) (turns : ℕ) (d : Device) (world : Components) (tol
   -- nothing is pending: the set may be brought up at once
   pub begun_unopened : IsOrderly world → d.pending ≡ None → IsUnopened p d world told living
   begun_unopened orderly none = record {
-    returned = front_returned p d world told living b.stage orderly none;
+    returned = stage_returned p d world told living b.stage orderly none;
     serves = b.serves;
     may = drained p p begun_generation b.serves;
     done = begun_done;
@@ -113,37 +114,37 @@ none_of o a (inr none) is = subst (λ (x : Option Answer). IfSome x (λ y. is_do
 
 -- ---- what it is
 
-closes_of : (p : SessionState) (ending : Ending) (h : List TraceEvent) → EndsPart p ending h → ResumesBy p.device.pending ending →
+closes_of : (p : SessionState) (ending : Ending) (h : List TraceEvent) → EndsPart p ending h → PendingEnding p.device.pending ending →
     is_some p.device.pending ≡ true →
     gives_up (status_of_ending ending) ≡ false → is_restart (status_of_ending ending) ≡ false → (o : Outcome) × ClosesAs o (records_of h)
-closes_of p (Closes o) h ends resumes some stays other = (o, ends.0)
-closes_of p (Restarts i) h ends resumes some stays other = absurd (false≢true (sym other))
-closes_of p (Reboots i) h ends resumes some stays other = absurd (false≢true (sym other))
-closes_of p Fails h ends resumes some stays other = absurd (false≢true (sym stays))
-closes_of p Breaks h ends resumes some stays other = absurd (false≢true (sym stays))
-closes_of p Forgets h ends resumes some stays other = ends
-closes_of p Starves h ends resumes some stays other = absurd (false≢true (sym stays))
-closes_of p (Declines x) h ends resumes some stays other = absurd (unbegun p.device.pending some resumes)
+closes_of p (ByClose o) h ends resumes some stays other = (o, ends.0)
+closes_of p (ByRestart i) h ends resumes some stays other = absurd (false≢true (sym other))
+closes_of p (ByReboot i) h ends resumes some stays other = absurd (false≢true (sym other))
+closes_of p ByDiskFault h ends resumes some stays other = absurd (false≢true (sym stays))
+closes_of p BySinkFault h ends resumes some stays other = absurd (false≢true (sym stays))
+closes_of p WantAfter h ends resumes some stays other = ends
+closes_of p WantBefore h ends resumes some stays other = absurd (false≢true (sym stays))
+closes_of p (ByDecline x) h ends resumes some stays other = absurd (unbegun p.device.pending some resumes)
   where
-    unbegun : (o : Option Pending) → is_some o ≡ true → ResumesBy o (Declines x) → ⊥
+    unbegun : (o : Option Pending) → is_some o ≡ true → PendingEnding o (ByDecline x) → ⊥
     unbegun None some resumes = false≢true some
     unbegun (Some q) some (inl begun) = begun
     unbegun (Some q) some (inr is) = cc
 closes_of p (Full at) h ends resumes some stays other = absurd (unbegun p.device.pending some resumes)
   where
-    unbegun : (o : Option Pending) → is_some o ≡ true → ResumesBy o (Full at) → ⊥
+    unbegun : (o : Option Pending) → is_some o ≡ true → PendingEnding o (Full at) → ⊥
     unbegun None some resumes = false≢true some
     unbegun (Some q) some (inl begun) = begun
     unbegun (Some q) some (inr is) = cc
 closes_of p NothingPending h ends resumes some stays other = absurd (unbegun p.device.pending some resumes)
   where
-    unbegun : (o : Option Pending) → is_some o ≡ true → ResumesBy o NothingPending → ⊥
+    unbegun : (o : Option Pending) → is_some o ≡ true → PendingEnding o NothingPending → ⊥
     unbegun None some resumes = false≢true some
     unbegun (Some q) some (inl begun) = begun
     unbegun (Some q) some (inr is) = cc
 
 -- for want of memory nothing was begun
-unbegun_of : (p : SessionState) (h : List TraceEvent) (ending : Ending) → ending ≡ Starves → EndsPart p ending h → IsUnbegun p h
+unbegun_of : (p : SessionState) (h : List TraceEvent) (ending : Ending) → ending ≡ WantBefore → EndsPart p ending h → IsUnbegun p h
 unbegun_of p h ending is ends = subst (λ (e : Ending). EndsPart p e h) is ends
 
 module _ {D J : Type 0} (disk : a_disk.Ghosts D) (journal : a_journal.Ghosts J)
@@ -177,13 +178,13 @@ module _ {D J : Type 0} (disk : a_disk.Ghosts D) (journal : a_journal.Ghosts J)
       (r : Ran J) (later : Components) (now : Told) (lives : List ℕ) (ends : EndsRan r)
       (part : Part journal.entries journal.files disk.may_leave disk.moment disk.left_since old.disk new.disk old.list new.list old.held new.held (alone p)
       (status_of_ran r) (λ ending q. RanLeft p.generation r (is_failing ending) q later now lives))
-      (alike : ServesAlike p part.history) (resumes : Resumes d part.ending) (failed : part.ending ≡ Fails → Rose old.faults new.faults)
-      (whole : AllHoldDevice (disk.may_leave old.disk) p.device → Leaves disk.moment disk.left_since old.disk new.disk
+      (alike : ServesAlike p part.history) (resumes : ResumeEnding d part.ending) (failed : part.ending ≡ ByDiskFault → Rose old.faults new.faults)
+      (whole : AllHoldDevice (disk.may_leave old.disk) p.device → HasLeft disk.moment disk.left_since old.disk new.disk
       (StandsWhole journal.entries p.device (records_of part.history))) where
     same_device : p.device ≡ d
     same_device = b.stage.between.stands.device_is
 
-    goes : Goes disk journal old.disk new.disk old.list new.list p part.history
+    goes : HistoryKept disk journal old.disk new.disk old.list new.list p part.history
     goes = record {
       proper = alike.proper;
       run = subst (λ (x : Device). Run p.device (records_of part.history) x) (sym (device_same p part.history alike)) part.trace.run;
@@ -193,20 +194,20 @@ module _ {D J : Type 0} (disk : a_disk.Ghosts D) (journal : a_journal.Ghosts J)
       whole = whole;
     }
 
-    own_resumes : Resumes p.device part.ending
-    own_resumes = subst (λ (x : Device). Resumes x part.ending) (sym same_device) resumes
+    own_resumes : ResumeEnding p.device part.ending
+    own_resumes = subst (λ (x : Device). ResumeEnding x part.ending) (sym same_device) resumes
 
     own_some : is_some p.device.pending ≡ true
     own_some = ap (λ (x : Device). is_some x.pending) same_device ∙ some
 
     resumed : IsPendingResumed p.device (records_of part.history) (state_after p part.history).device
-        (call_lines p.device part.prints.told part.ending) part.ending
+        (call_lines p.device part.prints.printed_records part.ending) part.ending
     resumed = record {
       resumes = own_resumes;
       ends = subst (λ (x : Device). RecordsEnd part.ending (records_of part.history) x) (sym (device_same p part.history alike))
           (records_end (alone p) part.ending part.history part.ends);
       once = subst (λ (taken : Bool). TakesOnce taken (records_of part.history)) own_some (part.once refl);
-      told = part.prints.told;
+      printed_records = part.prints.printed_records;
       rest = part.prints.rest;
       split = part.prints.split;
       few = part.prints.few;
@@ -238,7 +239,7 @@ module _ {D J : Type 0} (disk : a_disk.Ghosts D) (journal : a_journal.Ghosts J)
                 stands = stand;
                 holds = λ all. whole_now disk journal laws apart files_own own old.disk new.disk p.device (state_after p part.history).device
                     (records_of part.history) (whole all) stand;
-                lines = call_lines p.device part.prints.told part.ending;
+                lines = call_lines p.device part.prints.printed_records part.ending;
                 ending = part.ending;
                 first = inl (is_pending, resumed);
                 closed = λ some. closes_of (alone p) part.ending part.history part.ends own_resumes own_some (sym (ap gives_up own_is) ∙ stays)
@@ -264,7 +265,7 @@ module _ {D J : Type 0} (disk : a_disk.Ghosts D) (journal : a_journal.Ghosts J)
                   | inr stops ↦ inr stops.1
                 ];
               };
-              lines = call_lines p.device part.prints.told part.ending;
+              lines = call_lines p.device part.prints.printed_records part.ending;
               ending = part.ending;
               first = resumed;
               stable = λ none. subst (λ (x : Device). AllStandFor disk journal new.disk x) (sym (device_same p part.history alike)) (part.prints.stable none);
@@ -273,7 +274,7 @@ module _ {D J : Type 0} (disk : a_disk.Ghosts D) (journal : a_journal.Ghosts J)
               with_status = over_status st (status_of_ending part.ending) (subst (λ (z : Status). IsOrEdge z (status_of_ending part.ending)) status_is
                   part.answers) end;
               writes = record {
-                front = part.prints.front;
+                prefix = part.prints.prefix;
                 all = λ other. part.prints.whole (λ edge. other (sym status_is ∙ edge));
               };
               end = end_beside (state_after (alone p) part.history) (state_after p part.history) alike.answer alike.taken p alike.state_is st

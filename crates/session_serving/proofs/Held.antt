@@ -11,7 +11,7 @@ use Rattle.deploy_state.specs.States.{OwnsIdle, idle_device}
 use Rattle.deploy_state.specs.declared.state.Idle.{Idle}
 use Rattle.deploy_state.proofs.Steps.{in_hand_stands}
 use Rattle.components.specs.Components.{Components}
-use Rattle.deploy_state.specs.Objects.{Holds}
+use Rattle.deploy_state.specs.Objects.{OwnsOver}
 use Rattle.session_serving.specs.Parts.{AllStandFor}
 use Rattle.session_serving.specs.Places.{AreUp}
 use Rattle.session_serving.specs.Turns.{OwnsTurned, UpTurned}
@@ -21,15 +21,15 @@ use Rattle.session_serving.specs.declared.turned.Turned.TheVariants as turned
 module _ {D J : Type 0} (disk : a_disk.Ghosts D) (journal : a_journal.Ghosts J) where
   module _ (laws : DiskLaws disk.is_modelled disk.seen disk.may_leave disk.moment disk.left_since)
       (own : JournalLaws journal.files journal.entries journal.holds_none journal.is_damaged journal.stands journal.end) where
-    pub idle_stands : (s : Idle J) (now : D) → Holds disk journal OwnsIdle s now → (d : Device) → d ≡ idle_device s → AllStandFor disk journal now d
+    pub idle_stands : (s : Idle J) (now : D) → OwnsOver disk journal OwnsIdle s now → (d : Device) → d ≡ idle_device s → AllStandFor disk journal now d
     idle_stands s now held d is =
         subst (λ (x : Device). AllStandFor disk journal now x) (sym is) (λ c left. in_hand_stands laws own s.log now (idle_device s) held.0 c left)
 
-  pub held_on : (r : Turned J) (s : Idle J) (now : D) → r ≡ turned.On s → Holds disk journal OwnsTurned r now → Holds disk journal OwnsIdle s now
-  held_on r s now is held = subst (λ (x : Turned J). Holds disk journal OwnsTurned x now) is held
+  pub held_on : (r : Turned J) (s : Idle J) (now : D) → r ≡ turned.On s → OwnsOver disk journal OwnsTurned r now → OwnsOver disk journal OwnsIdle s now
+  held_on r s now is held = subst (λ (x : Turned J). OwnsOver disk journal OwnsTurned x now) is held
 
-  pub held_shut : (r : Turned J) (s : Idle J) (now : D) → r ≡ turned.Shut s → Holds disk journal OwnsTurned r now → Holds disk journal OwnsIdle s now
-  held_shut r s now is held = subst (λ (x : Turned J). Holds disk journal OwnsTurned x now) is held
+  pub held_shut : (r : Turned J) (s : Idle J) (now : D) → r ≡ turned.Shut s → OwnsOver disk journal OwnsTurned r now → OwnsOver disk journal OwnsIdle s now
+  held_shut r s now is held = subst (λ (x : Turned J). OwnsOver disk journal OwnsTurned x now) is held
 
 pub turned_up : {J : Type 0} (r : Turned J) (s : Idle J) (w : Components) → r ≡ turned.On s → UpTurned r w → AreUp (idle_device s) w
 turned_up r s w is up = subst (λ (x : Turned _). UpTurned x w) is up

@@ -1,10 +1,10 @@
 -- What a crash leaves of one deployment.
 use Rattle.std.specs.Prelude.{ℕ, List, [], Option}
 use Rattle.std.proofs.Common.{refl, subst}
-use Rattle.disk_model.specs.Disk.{After, DiskLaws, Image, Leaves}
+use Rattle.disk_model.specs.Disk.{IsAfter, DiskLaws, Image, HasLeft}
 use Rattle.disk_model.specs.Listing.{artifacts, IsBelow}
 use Rattle.disk_model.specs.Moments.{joined, now, weaker}
-use Rattle.disk_model.specs.Spares.{Spares}
+use Rattle.disk_model.specs.Spares.{IsSameBut}
 use Rattle.disk_model.specs.declared.disk.Disk as a_disk
 use Rattle.gate_log.specs.Journal.{JournalLaws}
 use Rattle.gate_log.specs.declared.journal.Journal as a_journal
@@ -27,7 +27,7 @@ use Rattle.session_serving.specs.Parts.{AllStandFor, AreOfFiles}
 module _ {D J : Type 0} (disk : a_disk.Ghosts D) (journal : a_journal.Ghosts J)
     (laws : DiskLaws disk.is_modelled disk.seen disk.may_leave disk.moment disk.left_since) (apart : LieElsewhere journal.files)
     (own : AreOfFiles journal.files journal.entries) where
-  stands_stays : (d : Device) (a b : Image) → Spares (IsBelow artifacts) a b → StandsFor journal.entries a d → StandsFor journal.entries b d
+  stands_stays : (d : Device) (a b : Image) → IsSameBut (IsBelow artifacts) a b → StandsFor journal.entries a d → StandsFor journal.entries b d
   stands_stays d a b spares h = record {
     payloads = h.payloads;
     live = own a b h.payloads (λ name is. spares name (λ below. apart name is below)) h.live;
@@ -35,10 +35,10 @@ module _ {D J : Type 0} (disk : a_disk.Ghosts D) (journal : a_journal.Ghosts J)
     room = h.room;
   }
 
-  prefix_stays : (d : Device) (records : List Record) (a b : Image) → Spares (IsBelow artifacts) a b → StandsForPrefix journal.entries d records a →
+  prefix_stays : (d : Device) (records : List Record) (a b : Image) → IsSameBut (IsBelow artifacts) a b → StandsForPrefix journal.entries d records a →
       StandsForPrefix journal.entries d records b
   prefix_stays d records a b spares h = record {
-    front = h.front;
+    prefix = h.prefix;
     rest = h.rest;
     split = h.split;
     device = h.device;
@@ -48,9 +48,9 @@ module _ {D J : Type 0} (disk : a_disk.Ghosts D) (journal : a_journal.Ghosts J)
 
   spared : (old new : D) (d : Device) (records : List Record) → ((c : Image) → disk.may_leave old c → StandsForPrefix journal.entries d records c) →
       ChangesArtifactsAlone disk.may_leave disk.moment disk.left_since old new →
-      Leaves disk.moment disk.left_since old new (StandsForPrefix journal.entries d records)
+      HasLeft disk.moment disk.left_since old new (StandsForPrefix journal.entries d records)
   spared old new d records stands changes =
-      weaker laws old new (After (disk.may_leave old) (Spares (IsBelow artifacts))) (StandsForPrefix journal.entries d records)
+      weaker laws old new (IsAfter (disk.may_leave old) (IsSameBut (IsBelow artifacts))) (StandsForPrefix journal.entries d records)
       (λ c was. prefix_stays d records was.0 c was.2 (stands was.0 was.1)) changes
 
   module _ (old new : D) (a b : Option (List RunnerEntry)) (u v : Option (List ℕ)) (p : SessionState) (status : Status)
@@ -58,25 +58,27 @@ module _ {D J : Type 0} (disk : a_disk.Ghosts D) (journal : a_journal.Ghosts J)
     abbrev IsPart : Type 0
     IsPart = Part journal.entries journal.files disk.may_leave disk.moment disk.left_since old new a b u v p status leaves
 
-    -- at each moment each image stands for what a front of the records makes of the device
+    -- at each moment each image stands for what a prefix of the records makes of the device
     pub part_images : (part : IsPart) → AllStandFor disk journal old p.device →
-        Leaves disk.moment disk.left_since old new (StandsForPrefix journal.entries p.device (records_of part.history))
+        HasLeft disk.moment disk.left_since old new (StandsForPrefix journal.entries p.device (records_of part.history))
     part_images part stands =
         let records = records_of part.history in
-        let front = StandsForPrefix journal.entries p.device records in
-        let before : Leaves disk.moment disk.left_since old part.from front = spared old part.from p.device records
-        (λ c left. record { front = []; rest = records; split = refl; device = p.device; run = refl; stands = stands c left }) part.before in
-        let trace : Leaves disk.moment disk.left_since part.from part.to front = weaker laws part.from part.to _ front (λ c was. was.2.here) part.trace.course
+        let prefix = StandsForPrefix journal.entries p.device records in
+        let before : HasLeft disk.moment disk.left_since old part.from prefix = spared old part.from p.device records
+        (λ c left. record { prefix = []; rest = records; split = refl; device = p.device; run = refl; stands = stands c left }) part.before in
+        let trace : HasLeft disk.moment disk.left_since part.from part.to prefix = weaker laws part.from part.to _ prefix
+        (λ c was. was.2.here) part.trace.course
         in
-        let after : Leaves disk.moment disk.left_since part.to new front =
-        spared part.to new p.device records (now laws part.from part.to front trace) part.after in
-        joined laws old part.to new front front front (joined laws old part.from part.to front front front before trace (λ c h. h) (λ c h. h)) after
+        let after : HasLeft disk.moment disk.left_since part.to new prefix =
+        spared part.to new p.device records (now laws part.from part.to prefix trace) part.after in
+        joined laws old part.to new prefix prefix prefix (joined laws old part.from part.to prefix prefix prefix before trace (λ c h. h) (λ c h. h)) after
         (λ c h. h) (λ c h. h)
 
   -- where each image now stands for one device, it has the artifacts of that
   pub whole_now : {holds_none : Image → Type 0} {is_damaged : Image → ℕ → Type 0} {stands : J → Image → List (List ℕ) → Type 0} {end : J → ℕ} →
       JournalLaws journal.files journal.entries holds_none is_damaged stands end → (old new : D) (d e : Device) (records : List Record) →
-      Leaves disk.moment disk.left_since old new (StandsWhole journal.entries d records) → AllStandFor disk journal new e → AllHoldDevice (disk.may_leave new) e
+      HasLeft disk.moment disk.left_since old new (StandsWhole journal.entries d records) → AllStandFor disk journal new e →
+      AllHoldDevice (disk.may_leave new) e
   whole_now journal_laws old new d e records leaves stands c left =
       let w = now laws old new (StandsWhole journal.entries d records) leaves c left in
       subst (λ (x : Device). HoldsDevice c x) (same_device_for journal_laws c w.0.device e w.0.stands (stands c left)) w.1

@@ -4,7 +4,7 @@ use Rattle.std.specs.Io.KnownBytes.{Appends}
 use Rattle.std.proofs.Common.{◌≡◌, ◌≤◌, ◌∙◌, inl, inr, refl, sym, ap, subst, append_assoc, arith}
 use Rattle.std.proofs.KnownBytes.{Appends-nil, Appends-trans}
 use Rattle.std.proofs.lemmas.List.{append-nil}
-use Rattle.disk_model.specs.Disk.{Image, DiskLaws, Leaves}
+use Rattle.disk_model.specs.Disk.{Image, DiskLaws, HasLeft}
 use Rattle.disk_model.specs.Moments.{at_start, joined, weaker}
 use Rattle.disk_model.specs.declared.disk.Disk as a_disk
 use Rattle.gate_log.specs.declared.journal.Journal as a_journal
@@ -15,18 +15,18 @@ use Rattle.device.specs.Devices.{Device}
 use Rattle.device.specs.Lawful.{Run}
 use Rattle.deploy_state.specs.Turning.{plan_bytes}
 use Rattle.artifact_store.specs.Holding.{AllHoldDevice}
-use Rattle.step_runner.specs.Entries.{Grows}
+use Rattle.step_runner.specs.Entries.{HasGrownBy}
 use Rattle.step_runner.specs.declared.entries.RunnerEntry.{RunnerEntry}
 use Rattle.histories.specs.States.{SessionState, state_after}
 use Rattle.histories.specs.TraceEvents.{Answer, TraceEvent, entries_of, records_of}
 use Rattle.histories.proofs.Joined.{entries-append, left-append, proper-append, records-append}
-use Rattle.session_boots.specs.Traces.{Acts, StandsForMost, StandsForPrefix}
+use Rattle.session_boots.specs.Traces.{ActTrace, StandsForMost, StandsForPrefix}
 use Rattle.session_boots.proofs.Acting.{grows_none, grows_on}
-use Rattle.session_boots.proofs.Prefixes.{front_behind, front_more, most_behind, run_on}
+use Rattle.session_boots.proofs.Prefixes.{prefix_after, prefix_more, most_behind, run_on}
 use Rattle.session_boots.proofs.Told.{stops_behind}
 use Rattle.session.specs.Calls.{StandsWhole}
 use Rattle.session.proofs.Accepted.{any_on, has_behind}
-use Rattle.session_serving.specs.Parts.{AllStandFor, Goes, HoldsOn, IsStarted, IsSure, Outside, Turns}
+use Rattle.session_serving.specs.Parts.{AllStandFor, HistoryKept, HoldsOn, IsStarted, IsSure, Outside, TurnsPassed}
 use Rattle.session_serving.specs.Rounds.{AreHandled, AreStarted, Handled, Round, answered_by, lines_of_rounds, questions_of, questions_of_rounds}
 use Rattle.session_serving.specs.Rounds.{records_of_rounds}
 use Rattle.session_serving.proofs.Questions.{not_asked, questions-append}
@@ -39,9 +39,9 @@ whole_more : (entries : Image → List (List ℕ) → Type 0) (d : Device) (firs
     StandsWhole entries d (first ++ second) image
 whole_more entries d first second image h = (
   record {
-    front = h.0.front;
+    prefix = h.0.prefix;
     rest = h.0.rest ++ second;
-    split = ap (λ (l : List Record). l ++ second) h.0.split ∙ append_assoc h.0.front h.0.rest second;
+    split = ap (λ (l : List Record). l ++ second) h.0.split ∙ append_assoc h.0.prefix h.0.rest second;
     device = h.0.device;
     run = h.0.run;
     stands = h.0.stands;
@@ -53,17 +53,17 @@ whole_behind : (entries : Image → List (List ℕ) → Type 0) (d : Device) (fi
     StandsWhole entries c second image → StandsWhole entries d (first ++ second) image
 whole_behind entries d first second c image run h = (
   record {
-    front = first ++ h.0.front;
+    prefix = first ++ h.0.prefix;
     rest = h.0.rest;
-    split = ap (λ (l : List Record). first ++ l) h.0.split ∙ sym (append_assoc first h.0.front h.0.rest);
+    split = ap (λ (l : List Record). first ++ l) h.0.split ∙ sym (append_assoc first h.0.prefix h.0.rest);
     device = h.0.device;
-    run = run_on d first c h.0.front h.0.device run h.0.run;
+    run = run_on d first c h.0.prefix h.0.device run h.0.run;
     stands = h.0.stands;
   },
   h.1,
 )
 
--- a front of bytes behind other bytes
+-- a prefix of bytes behind other bytes
 pub prefix_behind : (a b c : Option (List ℕ)) (l m : List ℕ) → Appends a b l → AppendsPrefix b c m → AppendsPrefix a c (l ++ m)
 prefix_behind a b c l m one two =
     (l ++ two.0, two.1, ap (λ (x : List ℕ). l ++ x) two.2 ∙ sym (append_assoc l two.0 two.1), Appends-trans a b c l two.0 one two.3)
@@ -79,8 +79,8 @@ module _ {D J : Type 0} (disk : a_disk.Ghosts D) (journal : a_journal.Ghosts J)
   -- ---- parts
 
   pub goes_both : (old mid new : D) (a b c : Option (List RunnerEntry)) (p : SessionState) (h g : List TraceEvent) →
-      Goes disk journal old mid a b p h → HoldsOn disk journal old mid p h → Goes disk journal mid new b c (state_after p h) g →
-      Goes disk journal old new a c p (g ++ h)
+      HistoryKept disk journal old mid a b p h → HoldsOn disk journal old mid p h → HistoryKept disk journal mid new b c (state_after p h) g →
+      HistoryKept disk journal old new a c p (g ++ h)
   goes_both old mid new a b c p h g one holds two =
       let d = p.device in
       let m = (state_after p h).device in
@@ -90,21 +90,21 @@ module _ {D J : Type 0} (disk : a_disk.Ghosts D) (journal : a_journal.Ghosts J)
       let left = ap (λ (q : SessionState). q.device) (left-append p g h) in
       let run = run_on d first m second (state_after (state_after p h) g).device one.run two.run in
       let images = joined laws old mid new (StandsForPrefix entries d first) (StandsForPrefix entries m second) (StandsForPrefix entries d (first ++ second))
-      one.images two.images (λ i f. front_more entries d first second i f) (λ i f. front_behind entries d first second m i one.run f) in
+      one.images two.images (λ i f. prefix_more entries d first second i f) (λ i f. prefix_after entries d first second m i one.run f) in
       record {
         proper = proper-append p g h two.proper one.proper;
         run = subst (λ (l : List Record). Run d l (state_after p (g ++ h)).device) (sym (records-append g h))
             (subst (λ (x : Device). Run d (first ++ second) x) (sym left) run);
-        list = subst (λ (l : List RunnerEntry). Grows a c l) (sym (entries-append g h)) (grows_on a b c (entries_of h) (entries_of g) one.list two.list);
-        images = subst (λ (l : List Record). Leaves disk.moment disk.left_since old new (StandsForPrefix entries d l)) (sym (records-append g h)) images;
-        whole = λ all. subst (λ (l : List Record). Leaves disk.moment disk.left_since old new (StandsWhole entries d l)) (sym (records-append g h))
+        list = subst (λ (l : List RunnerEntry). HasGrownBy a c l) (sym (entries-append g h)) (grows_on a b c (entries_of h) (entries_of g) one.list two.list);
+        images = subst (λ (l : List Record). HasLeft disk.moment disk.left_since old new (StandsForPrefix entries d l)) (sym (records-append g h)) images;
+        whole = λ all. subst (λ (l : List Record). HasLeft disk.moment disk.left_since old new (StandsWhole entries d l)) (sym (records-append g h))
             (joined laws old mid new (StandsWhole entries d first) (StandsWhole entries m second) (StandsWhole entries d (first ++ second)) (one.whole all)
             (two.whole (holds all)) (λ i f. whole_more entries d first second i f) (λ i f. whole_behind entries d first second m i one.run f));
       }
 
   -- a part that no disk sees
-  pub goes_acts : (now : D) (a b : Option (List RunnerEntry)) (p : SessionState) (h : List TraceEvent) → Stood now p.device → Acts p h a b →
-      Goes disk journal now now a b p h
+  pub goes_acts : (now : D) (a b : Option (List RunnerEntry)) (p : SessionState) (h : List TraceEvent) → Stood now p.device → ActTrace p h a b →
+      HistoryKept disk journal now now a b p h
   goes_acts now a b p h stands acts =
       let d = p.device in
       let entries = journal.entries in
@@ -112,19 +112,19 @@ module _ {D J : Type 0} (disk : a_disk.Ghosts D) (journal : a_journal.Ghosts J)
         proper = acts.proper;
         run = subst (λ (l : List Record). Run d l (state_after p h).device) (sym acts.none) acts.device;
         list = acts.list;
-        images = subst (λ (l : List Record). Leaves disk.moment disk.left_since now now (StandsForPrefix entries d l)) (sym acts.none)
+        images = subst (λ (l : List Record). HasLeft disk.moment disk.left_since now now (StandsForPrefix entries d l)) (sym acts.none)
             (weaker laws now now (disk.may_leave now) (StandsForPrefix entries d [])
-            (λ c left. record { front = []; rest = []; split = refl; device = d; run = refl; stands = stands c left }) (at_start laws now));
-        whole = λ all. subst (λ (l : List Record). Leaves disk.moment disk.left_since now now (StandsWhole entries d l)) (sym acts.none)
+            (λ c left. record { prefix = []; rest = []; split = refl; device = d; run = refl; stands = stands c left }) (at_start laws now));
+        whole = λ all. subst (λ (l : List Record). HasLeft disk.moment disk.left_since now now (StandsWhole entries d l)) (sym acts.none)
             (weaker laws now now (disk.may_leave now) (StandsWhole entries d [])
-            (λ c left. (record { front = []; rest = []; split = refl; device = d; run = refl; stands = stands c left }, all c left)) (at_start laws now));
+            (λ c left. (record { prefix = []; rest = []; split = refl; device = d; run = refl; stands = stands c left }, all c left)) (at_start laws now));
       }
 
-  pub stands_acts : (now : D) (a b : Option (List RunnerEntry)) (p : SessionState) (h : List TraceEvent) → Stood now p.device → Acts p h a b →
+  pub stands_acts : (now : D) (a b : Option (List RunnerEntry)) (p : SessionState) (h : List TraceEvent) → Stood now p.device → ActTrace p h a b →
       Stood now (state_after p h).device
   stands_acts now a b p h stands acts = subst (λ (x : Device). Stood now x) (sym acts.device) stands
 
-  pub holds_acts : (now : D) (a b : Option (List RunnerEntry)) (p : SessionState) (h : List TraceEvent) → Acts p h a b → HoldsOn disk journal now now p h
+  pub holds_acts : (now : D) (a b : Option (List RunnerEntry)) (p : SessionState) (h : List TraceEvent) → ActTrace p h a b → HoldsOn disk journal now now p h
   holds_acts now a b p h acts all = subst (λ (x : Device). AllHoldDevice (disk.may_leave now) x) (sym acts.device) all
 
   pub holds_both : (old mid new : D) (p : SessionState) (h g : List TraceEvent) → HoldsOn disk journal old mid p h →
@@ -139,7 +139,7 @@ module _ {D J : Type 0} (disk : a_disk.Ghosts D) (journal : a_journal.Ghosts J)
       IsSure disk journal now p h
   sure_run now p h run stands = record {
     most = λ c may. record {
-      front = records_of h;
+      prefix = records_of h;
       rest = [];
       split = sym (append-nil (records_of h));
       few = omega arith;
@@ -150,7 +150,7 @@ module _ {D J : Type 0} (disk : a_disk.Ghosts D) (journal : a_journal.Ghosts J)
     doubt = inl stands;
   }
 
-  pub sure_acts : (now : D) (a b : Option (List RunnerEntry)) (p : SessionState) (h : List TraceEvent) → Stood now p.device → Acts p h a b →
+  pub sure_acts : (now : D) (a b : Option (List RunnerEntry)) (p : SessionState) (h : List TraceEvent) → Stood now p.device → ActTrace p h a b →
       IsSure disk journal now p h
   sure_acts now a b p h stands acts = sure_run now p h
       (subst (λ (l : List Record). Run p.device l (state_after p h).device) (sym acts.none) acts.device)
@@ -171,8 +171,8 @@ module _ {D J : Type 0} (disk : a_disk.Ghosts D) (journal : a_journal.Ghosts J)
   -- ---- turns
 
   -- how documents began in the first part, or in the second, they began in both
-  module _ (old mid new : D) (P Q : Image → Type 0) (first : Leaves disk.moment disk.left_since old mid P)
-      (second : Leaves disk.moment disk.left_since mid new Q) where
+  module _ (old mid new : D) (P Q : Image → Type 0) (first : HasLeft disk.moment disk.left_since old mid P)
+      (second : HasLeft disk.moment disk.left_since mid new Q) where
     started_first : (x : Handled) → IsStarted disk journal old mid x → IsStarted disk journal old new x
     started_first x s = (
       (λ told. let c = s.0 told in (c.0, second.keeps (disk.moment old) c.0 first.later c.1, c.2)),
@@ -199,7 +199,8 @@ module _ {D J : Type 0} (disk : a_disk.Ghosts D) (journal : a_journal.Ghosts J)
         (started_more (IsStarted disk journal mid new) W started_second b two)
 
   pub turns_both : (Clause : Handled → Type 0) (old mid new : Outside D) (p : SessionState) (h g : List TraceEvent) (a b : List Round) →
-      Turns disk journal Clause old mid p h a → Turns disk journal Clause mid new (state_after p h) g b → Turns disk journal Clause old new p (g ++ h) (a ++ b)
+      TurnsPassed disk journal Clause old mid p h a → TurnsPassed disk journal Clause mid new (state_after p h) g b →
+      TurnsPassed disk journal Clause old new p (g ++ h) (a ++ b)
   turns_both Clause old mid new p h g a b one two =
       let left = left-append p g h in
       record {
@@ -230,7 +231,8 @@ module _ {D J : Type 0} (disk : a_disk.Ghosts D) (journal : a_journal.Ghosts J)
 
   -- a part without a record is one without a round
   pub turns_acts : (Clause : Handled → Type 0) (old : Outside D) (b : Option (List RunnerEntry)) (p : SessionState) (h : List TraceEvent) →
-      Stood old.disk p.device → Acts p h old.list b → (state_after p h).turns ≡ p.turns → Turns disk journal Clause old (record old { list = b }) p h []
+      Stood old.disk p.device → ActTrace p h old.list b → (state_after p h).turns ≡ p.turns →
+      TurnsPassed disk journal Clause old (record old { list = b }) p h []
   turns_acts Clause old b p h stands acts turns = record {
     goes = goes_acts old.disk old.list b p h stands acts;
     stands = stands_acts old.disk old.list b p h stands acts;
@@ -246,6 +248,6 @@ module _ {D J : Type 0} (disk : a_disk.Ghosts D) (journal : a_journal.Ghosts J)
     starts = tt;
   }
 
-  pub turns_none : (Clause : Handled → Type 0) (old : Outside D) (p : SessionState) → Stood old.disk p.device → Turns disk journal Clause old old p [] []
+  pub turns_none : (Clause : Handled → Type 0) (old : Outside D) (p : SessionState) → Stood old.disk p.device → TurnsPassed disk journal Clause old old p [] []
   turns_none Clause old p stands = turns_acts Clause old old.list p [] stands
       (record { proper = tt; none = refl; list = grows_none old.list old.list refl; device = refl }) refl

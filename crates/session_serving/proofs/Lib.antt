@@ -4,7 +4,7 @@ pub mod Joining
 pub mod Asking
 pub mod Turning
 pub mod Doing
-pub mod Places
+pub mod States
 pub mod Steady
 pub mod Held
 pub mod Causing

@@ -8,7 +8,8 @@ use Rattle.edges.specs.Waiting.{Waiting, without_first}
 use Rattle.device.specs.Devices.{Device}
 use Rattle.records.specs.Stored.{Record}
 use Rattle.histories.specs.TraceEvents.{Answer, document, nothing}
-use Rattle.session_serving.specs.Rounds.{AreGiven, AreHandled, AreStarted, Gives, Handled, Round, Took, Waited, answered_by, lines_of_rounds, records_of_rounds}
+use Rattle.session_serving.specs.Rounds.{AreGiven, AreHandled, AreStarted, WaitingLeft, Handled, Round, Took, Waited, answered_by, lines_of_rounds}
+use Rattle.session_serving.specs.Rounds.{records_of_rounds}
 use Rattle.session_serving.specs.Rounds.{questions_of_rounds, waiting_behind}
 
 pub records_both : (a b : List Round) → records_of_rounds (a ++ b) ≡ records_of_rounds a ++ records_of_rounds b
@@ -42,13 +43,13 @@ given_both [] b w one two = two
 given_both (Waited ∷ a) b w one two = (one.0, given_both a b w one.1 two)
 given_both (Took y ∷ a) b w one two = (one.0, given_both a b (without_first w) one.1 two)
 
-pub gives_both : (old mid new : Option Waiting) (a b : List Round) → Gives old mid a → Gives mid new b → Gives old new (a ++ b)
-gives_both None mid new a b one two = subst (λ (o : Option Waiting). Gives o new b) one two
+pub gives_both : (old mid new : Option Waiting) (a b : List Round) → WaitingLeft old mid a → WaitingLeft mid new b → WaitingLeft old new (a ++ b)
+gives_both None mid new a b one two = subst (λ (o : Option Waiting). WaitingLeft o new b) one two
 gives_both (Some w) mid new a b one two =
-    let second = subst (λ (o : Option Waiting). Gives o new b) one.1 two in
+    let second = subst (λ (o : Option Waiting). WaitingLeft o new b) one.1 two in
     (given_both a b w one.0 second.0, second.1 ∙ ap (λ (x : Waiting). Some x) (sym (waiting_both a b w)))
 
-pub gives_none : (old : Option Waiting) → Gives old old []
+pub gives_none : (old : Option Waiting) → WaitingLeft old old []
 gives_none None = refl
 gives_none (Some w) = (tt, refl)
 

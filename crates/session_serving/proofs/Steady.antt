@@ -7,7 +7,7 @@ use Rattle.components.specs.Components.{Components}
 use Rattle.histories.specs.States.{SessionState}
 use Rattle.session_steady.specs.Runs.{IsSame}
 use Rattle.session_steady.specs.Serves.{IsAsking, IsServing, SettledLeft}
-use Rattle.session_steady.specs.Stays.{Stays}
+use Rattle.session_steady.specs.Stays.{IsKeptSteady}
 use Rattle.session_serving.specs.Places.{AreUp}
 
 module _ (x q : SessionState) (d : Device) (world : Components) (told : Told) (living : List ℕ) (r : Option ℕ) where
@@ -18,7 +18,7 @@ module _ (x q : SessionState) (d : Device) (world : Components) (told : Told) (l
   settled_none is left = subst (λ (o : Option ℕ). SettledLeft x o q d world told living) is left
 
 -- the components stay up
-pub up_on : (d : Device) (w v : Components) → AreUp d w → Stays w v → AreUp d v
+pub up_on : (d : Device) (w v : Components) → AreUp d w → IsKeptSteady w v → AreUp d v
 up_on d w v up s = record {
   drives = s.drives;
   steady = s.mode ∙ up.steady;

@@ -29,15 +29,16 @@ use Rattle.histories.specs.Courses.{IsEnd, is_restart}
 use Rattle.histories.specs.States.{SessionState, state_after}
 use Rattle.histories.specs.TraceEvents.{Answer, TraceEvent, document, nothing, records_of}
 use Rattle.histories.proofs.Joined.{left-append, records-append}
-use Rattle.session_boots.specs.Traces.{Acts}
+use Rattle.session_boots.specs.Traces.{ActTrace}
 use Rattle.session_shutdown.specs.Stops.{MayStop}
 use Rattle.session_steady.specs.Serves.{IsServing}
 use Rattle.session_serving.specs.Documents.{IsDone, IsLastDone}
-use Rattle.session_serving.specs.Parts.{Ends, Goes, IsStarted, IsSure, Outside, Turns}
+use Rattle.session_serving.specs.Parts.{CallEnded, HistoryKept, IsStarted, IsSure, Outside, TurnsPassed}
 use Rattle.session_serving.specs.Rounds.{SaysLast, Shut, Spent, asked_of_last}
-use Rattle.session_serving.specs.Rounds.{AreStarted, Fails, Gives, Handled, Last, Round, Starves, Stops, Took, Waited, questions_of, records_of_last}
+use Rattle.session_serving.specs.Rounds.{AreStarted, InboxFailed, WaitingLeft, Handled, LastRound, Round, WantOfMemory, StoppedBy, Took, Waited}
+use Rattle.session_serving.specs.Rounds.{questions_of, records_of_last}
 use Rattle.session_serving.specs.Rounds.{round_of_last}
-use Rattle.session_serving.specs.Turns.{AsksNone, EndsBy, GivesUpBy, HandleLeft, OverLeft, Shuts, TurnLeft, line_of_fault}
+use Rattle.session_serving.specs.Turns.{AsksNone, EndsBy, GivesUpBy, HandleLeft, OverLeft, InboxFoundClosed, TurnLeft, line_of_fault}
 use Rattle.session_serving.specs.declared.turned.Turned.{Turned}
 use Rattle.session_serving.specs.declared.turned.Turned.TheVariants as turned
 use Rattle.session_serving.proofs.Questions.{not_asked, questions-append}
@@ -46,12 +47,12 @@ use Rattle.session_serving.proofs.Joining.{turns_both, turns_none}
 
 -- ---- what waits
 
-gives_waited : (old new : Option Waiting) → new ≡ old → IfSome old (λ w. GivesNothing ≡ next_of w.documents w.closed) → Gives old new (Waited ∷ [])
+gives_waited : (old new : Option Waiting) → new ≡ old → IfSome old (λ w. GivesNothing ≡ next_of w.documents w.closed) → WaitingLeft old new (Waited ∷ [])
 gives_waited None new same next = same
 gives_waited (Some w) new same next = ((sym next, tt), same)
 
 gives_took : (x : Handled) (bytes : List ℕ) (old mid new : Option Waiting) → mid ≡ old → IfSome old (λ w. GivesDocument bytes ≡ next_of w.documents w.closed) →
-    x.bytes ≡ bytes → new ≡ option_map without_first mid → Gives old new (Took x ∷ [])
+    x.bytes ≡ bytes → new ≡ option_map without_first mid → WaitingLeft old new (Took x ∷ [])
 gives_took x bytes None mid new same next is done = done ∙ ap (λ (o : Option Waiting). option_map without_first o) same
 gives_took x bytes (Some w) mid new same next is done =
     ((sym next ∙ ap (λ (l : List ℕ). GivesDocument l) (sym is), tt), done ∙ ap (λ (o : Option Waiting). option_map without_first o) same)
@@ -65,12 +66,12 @@ closed_next : (w : Option Waiting) → IfSome w (λ v. IsClosed ≡ next_of v.do
 closed_next None next = tt
 closed_next (Some v) next = sym next
 
-one_asked : (last : Last) → asked_of_last last ≤ 1
+one_asked : (last : LastRound) → asked_of_last last ≤ 1
 one_asked Spent = omega arith
 one_asked Shut = omega arith
-one_asked (Stops x) = omega arith
-one_asked Fails = omega arith
-one_asked Starves = omega arith
+one_asked (StoppedBy x) = omega arith
+one_asked InboxFailed = omega arith
+one_asked WantOfMemory = omega arith
 
 -- what is seen when the inbox has answered so
 abbrev pub answered_as : {D : Type 0} → Outside D → Option (List RunnerEntry) → Answered → Option Waiting → Outside D
@@ -80,10 +81,10 @@ module _ {D J : Type 0} (disk : a_disk.Ghosts D) (journal : a_journal.Ghosts J)
     (laws : DiskLaws disk.is_modelled disk.seen disk.may_leave disk.moment disk.left_since) (Clause : Handled → Type 0) where
   module _ (old : Outside D) (p : SessionState) (stands : Stood disk journal laws old.disk p.device) where
     -- it had nothing
-    pub waited : (b : Option (List RunnerEntry)) (new : Answered) (after : Option Waiting) (h : List TraceEvent) → Acts p h old.list b →
+    pub waited : (b : Option (List RunnerEntry)) (new : Answered) (after : Option Waiting) (h : List TraceEvent) → ActTrace p h old.list b →
         (state_after p h).turns + 1 ≡ p.turns → questions_of h ≡ nothing ∷ [] → new ≡ after_answer Nothing old.answered → after ≡ old.waiting →
         IfSome old.waiting (λ w. GivesNothing ≡ next_of w.documents w.closed) →
-        Turns disk journal Clause old (answered_as old b new after) p h (Waited ∷ [])
+        TurnsPassed disk journal Clause old (answered_as old b new after) p h (Waited ∷ [])
     waited b new after h acts turns asked answered same next = record {
       goes = goes_acts disk journal laws old.disk old.list b p h stands acts;
       stands = stands_acts disk journal laws old.disk old.list b p h stands acts;
@@ -100,9 +101,9 @@ module _ {D J : Type 0} (disk : a_disk.Ghosts D) (journal : a_journal.Ghosts J)
     }
 
     -- it was closed
-    pub shut : (b : Option (List RunnerEntry)) (new : Answered) (after : Option Waiting) (h : List TraceEvent) → Acts p h old.list b →
+    pub shut : (b : Option (List RunnerEntry)) (new : Answered) (after : Option Waiting) (h : List TraceEvent) → ActTrace p h old.list b →
         new ≡ after_answer Closed old.answered → after ≡ old.waiting → IfSome old.waiting (λ w. IsClosed ≡ next_of w.documents w.closed) →
-        Shuts disk journal Clause old (answered_as old b new after) p h
+        InboxFoundClosed disk journal Clause old (answered_as old b new after) p h
     shut b new after h acts answered same next = record {
       goes = goes_acts disk journal laws old.disk old.list b p h stands acts;
       stands = stands_acts disk journal laws old.disk old.list b p h stands acts;
@@ -112,7 +113,7 @@ module _ {D J : Type 0} (disk : a_disk.Ghosts D) (journal : a_journal.Ghosts J)
     }
 
     -- the records of its document lead from the device to that behind them
-    run_of : {b : Option (List RunnerEntry)} (h g : List TraceEvent) (x : Handled) → Acts p h old.list b → records_of g ≡ x.records →
+    run_of : {b : Option (List RunnerEntry)} (h g : List TraceEvent) (x : Handled) → ActTrace p h old.list b → records_of g ≡ x.records →
         x.behind ≡ (state_after (state_after p h) g).device → Run (state_after p h).device (records_of g) (state_after (state_after p h) g).device →
         Run p.device x.records x.behind
     run_of h g x acts records behind run =
@@ -122,10 +123,10 @@ module _ {D J : Type 0} (disk : a_disk.Ghosts D) (journal : a_journal.Ghosts J)
 
     -- its document was handled
     pub took : (b : Option (List RunnerEntry)) (mid : Answered) (between : Option Waiting) (new : Outside D) (bytes : List ℕ) (h g : List TraceEvent)
-        (x : Handled) → Acts p h old.list b → (state_after p h).turns + 1 ≡ p.turns → questions_of h ≡ document ∷ [] →
+        (x : Handled) → ActTrace p h old.list b → (state_after p h).turns + 1 ≡ p.turns → questions_of h ≡ document ∷ [] →
         mid ≡ after_answer Document old.answered → between ≡ old.waiting →
         IfSome old.waiting (λ w. GivesDocument bytes ≡ next_of w.documents w.closed) → x.bytes ≡ bytes →
-        IsDone disk journal Clause (answered_as old b mid between) new (state_after p h) g x → Turns disk journal Clause old new p (g ++ h) (Took x ∷ [])
+        IsDone disk journal Clause (answered_as old b mid between) new (state_after p h) g x → TurnsPassed disk journal Clause old new p (g ++ h) (Took x ∷ [])
     took b mid between new bytes h g x acts turns asked answered same next is done =
         let left = left-append p g h in
         let i = done.handled in
@@ -160,10 +161,10 @@ module _ {D J : Type 0} (disk : a_disk.Ghosts D) (journal : a_journal.Ghosts J)
 
     -- its document ends the call
     pub stopped : (b : Option (List RunnerEntry)) (mid : Answered) (between : Option Waiting) (new : Outside D) (bytes : List ℕ) (h g : List TraceEvent)
-        (x : Handled) (status : Status) (rose : Bool) → Acts p h old.list b → mid ≡ after_answer Document old.answered → between ≡ old.waiting →
+        (x : Handled) (status : Status) (rose : Bool) → ActTrace p h old.list b → mid ≡ after_answer Document old.answered → between ≡ old.waiting →
         IfSome old.waiting (λ w. GivesDocument bytes ≡ next_of w.documents w.closed) → x.bytes ≡ bytes →
         IsLastDone disk journal Clause (answered_as old b mid between) new (state_after p h) g x status rose →
-        Ends disk journal (EndsBy Clause) old new p (g ++ h) (Stops x) status rose
+        CallEnded disk journal (EndsBy Clause) old new p (g ++ h) (StoppedBy x) status rose
     stopped b mid between new bytes h g x status rose acts answered same next is last =
         let left = left-append p g h in
         let i = last.ended in
@@ -176,7 +177,7 @@ module _ {D J : Type 0} (disk : a_disk.Ghosts D) (journal : a_journal.Ghosts J)
           stable = λ none. subst (λ (q : SessionState). Stood disk journal laws new.disk q.device) (sym left) (i.stable none);
           lines = i.lines;
           says = i.says;
-          writes = record { front = i.writes.front; all = i.writes.all };
+          writes = record { prefix = i.writes.prefix; all = i.writes.all };
           records = records-append g h ∙ ap (λ (l : List Record). l ++ records_of g) acts.none ∙ o.records;
           why = record {
             device = o.device ∙ acts.device;
@@ -197,14 +198,14 @@ module _ {D J : Type 0} (disk : a_disk.Ghosts D) (journal : a_journal.Ghosts J)
         }
 
     -- it gave no answer, or the call gives up at the clock's end
-    pub given_up : (last : Last) (status : Status) (lines : List ℕ) (new : Outside D) (h : List TraceEvent) → new.disk ≡ old.disk →
-        Acts p h old.list new.list → records_of_last last ≡ [] → round_of_last last ≡ [] → SaysLast last status lines →
+    pub given_up : (last : LastRound) (status : Status) (lines : List ℕ) (new : Outside D) (h : List TraceEvent) → new.disk ≡ old.disk →
+        ActTrace p h old.list new.list → records_of_last last ≡ [] → round_of_last last ≡ [] → SaysLast last status lines →
         EndsBy Clause last status old new p.device →
         AppendsPrefix old.held new.held lines →
         (status ≢ statuses.Edge → Appends old.held new.held lines) → IsEnd (state_after p h) status false →
-        Ends disk journal (EndsBy Clause) old new p h last status false
-    given_up last status lines new h same acts none no_round says why front whole end = record {
-      goes = subst (λ (d : D). Goes disk journal old.disk d old.list new.list p h) (sym same)
+        CallEnded disk journal (EndsBy Clause) old new p h last status false
+    given_up last status lines new h same acts none no_round says why prefix whole end = record {
+      goes = subst (λ (d : D). HistoryKept disk journal old.disk d old.list new.list p h) (sym same)
           (goes_acts disk journal laws old.disk old.list new.list p h stands acts);
       sure = subst (λ (d : D). IsSure disk journal d p h) (sym same)
           (sure_acts disk journal laws old.disk old.list new.list p h stands acts);
@@ -212,7 +213,7 @@ module _ {D J : Type 0} (disk : a_disk.Ghosts D) (journal : a_journal.Ghosts J)
           (stands_acts disk journal laws old.disk old.list new.list p h stands acts);
       lines = lines;
       says = says;
-      writes = record { front = front; all = whole };
+      writes = record { prefix = prefix; all = whole };
       records = acts.none ∙ sym none;
       why = why;
       starts = subst (λ (l : List Round). AreStarted (IsStarted disk journal old.disk new.disk) l) (sym no_round) tt;
@@ -221,15 +222,15 @@ module _ {D J : Type 0} (disk : a_disk.Ghosts D) (journal : a_journal.Ghosts J)
     }
 
     -- so ends a turn
-    pub over_at : (last : Last) (status : Status) (rose : Bool) (new : Outside D) (h : List TraceEvent) →
-        Ends disk journal (EndsBy Clause) old new p h last status rose → OverLeft disk journal Clause 1 status old new p h
+    pub over_at : (last : LastRound) (status : Status) (rose : Bool) (new : Outside D) (h : List TraceEvent) →
+        CallEnded disk journal (EndsBy Clause) old new p h last status rose → OverLeft disk journal Clause 1 status old new p h
     over_at last status rose new h ends =
         let few = one_asked last in
         ([], h, old, [], last, rose, sym (append-nil h), turns_none disk journal laws Clause old p stands, ends, omega (arith, few))
 
     -- behind the handling of a document
     pub handled : (b : Option (List RunnerEntry)) (mid : Answered) (between : Option Waiting) (new : Outside D) (bytes : List ℕ) (h g : List TraceEvent)
-        (r : Turned J) (world : Components) (told : Told) (living : List ℕ) → Acts p h old.list b → (state_after p h).turns + 1 ≡ p.turns →
+        (r : Turned J) (world : Components) (told : Told) (living : List ℕ) → ActTrace p h old.list b → (state_after p h).turns + 1 ≡ p.turns →
         questions_of h ≡ document ∷ [] → mid ≡ after_answer Document old.answered → between ≡ old.waiting →
         IfSome old.waiting (λ w. GivesDocument bytes ≡ next_of w.documents w.closed) →
         HandleLeft disk journal Clause bytes r (answered_as old b mid between) new (state_after p h) g world told living →
@@ -241,23 +242,23 @@ module _ {D J : Type 0} (disk : a_disk.Ghosts D) (journal : a_journal.Ghosts J)
     )
     handled b mid between new bytes h g (turned.Shut s) world told living acts turns asked answered same next l = absurd l
     handled b mid between new bytes h g (turned.Over status) world told living acts turns asked answered same next (inl l) =
-        over_at (Stops l.0) status l.1 new (g ++ h) (stopped b mid between new bytes h g l.0 status l.1 acts answered same next l.2 l.3)
+        over_at (StoppedBy l.0) status l.1 new (g ++ h) (stopped b mid between new bytes h g l.0 status l.1 acts answered same next l.2 l.3)
     handled b mid between new bytes h g (turned.Over status) world told living acts turns asked answered same next (inr l) = (
       l.2 ++ h,
       l.3,
       l.4,
       Took l.0 ∷ [],
-      Starves,
+      WantOfMemory,
       false,
       ap (λ (k : List TraceEvent). k ++ h) l.5 ∙ append_assoc l.3 l.2 h,
       took b mid between l.4 bytes h l.2 l.0 acts turns asked answered same next l.1 l.6,
-      subst (λ (q : SessionState). Ends disk journal (EndsBy Clause) l.4 new q l.3 Starves status false) (sym (left-append p l.2 h)) l.7,
+      subst (λ (q : SessionState). CallEnded disk journal (EndsBy Clause) l.4 new q l.3 WantOfMemory status false) (sym (left-append p l.2 h)) l.7,
       omega arith,
     )
 
     -- behind what was settled
     pub turn_behind : (b : Option (List RunnerEntry)) (new : Outside D) (k h : List TraceEvent) (r : Turned J) (world : Components) (told : Told)
-        (living : List ℕ) → Acts p k old.list b → (state_after p k).turns ≡ p.turns →
+        (living : List ℕ) → ActTrace p k old.list b → (state_after p k).turns ≡ p.turns →
         TurnLeft disk journal Clause r (record old { list = b }) new (state_after p k) h world told living →
         TurnLeft disk journal Clause r old new p (h ++ k) world told living
     turn_behind b new k h (turned.On s) world told living acts turns l = (
@@ -295,16 +296,18 @@ module _ {D J : Type 0} (disk : a_disk.Ghosts D) (journal : a_journal.Ghosts J)
       ap (λ (m : List TraceEvent). m ++ k) l.6 ∙ append_assoc l.1 l.0 k,
       turns_both disk journal laws Clause old (record old { list = b }) l.2 p k l.0 [] l.3 (turns_acts disk journal laws Clause old b p k stands acts turns)
           l.7,
-      subst (λ (q : SessionState). Ends disk journal (EndsBy Clause) l.2 new q l.1 l.4 status l.5) (sym (left-append p l.0 k)) l.8,
+      subst (λ (q : SessionState). CallEnded disk journal (EndsBy Clause) l.2 new q l.1 l.4 status l.5) (sym (left-append p l.0 k)) l.8,
       l.9,
     )
 
     -- since the inbox gave no answer
-    pub fault_over : (fault : InboxFault) (status : Status) (new : Outside D) (h : List TraceEvent) → new.disk ≡ old.disk → Acts p h old.list new.list →
+    pub fault_over : (fault : InboxFault) (status : Status) (new : Outside D) (h : List TraceEvent) → new.disk ≡ old.disk → ActTrace p h old.list new.list →
         AsksNone old new → GivesUpBy fault status → AppendsPrefix old.held new.held (line_of_fault fault) →
         (status ≢ statuses.Edge → Appends old.held new.held (line_of_fault fault)) → IsEnd (state_after p h) status false →
         OverLeft disk journal Clause 1 status old new p h
-    fault_over faults.Failed status new h same acts none why front whole end =
-        over_at Fails status false new h (given_up Fails status (line_of_fault faults.Failed) new h same acts refl refl refl (why, none) front whole end)
-    fault_over faults.NoMemory status new h same acts none why front whole end =
-        over_at Starves status false new h (given_up Starves status (line_of_fault faults.NoMemory) new h same acts refl refl refl (why, none) front whole end)
+    fault_over faults.Failed status new h same acts none why prefix whole end =
+        over_at InboxFailed status false new h
+        (given_up InboxFailed status (line_of_fault faults.Failed) new h same acts refl refl refl (why, none) prefix whole end)
+    fault_over faults.NoMemory status new h same acts none why prefix whole end =
+        over_at WantOfMemory status false new h
+        (given_up WantOfMemory status (line_of_fault faults.NoMemory) new h same acts refl refl refl (why, none) prefix whole end)

@@ -10,7 +10,7 @@ use Rattle.step_runner.specs.Entries.{Told}
 use Rattle.components.specs.Changes.{standing}
 use Rattle.components.specs.Components.{Components, ComponentState, is_over}
 use Rattle.components.specs.Platforms.{AllRunFor}
-use Rattle.histories.specs.Courses.{IsStart, Stands}
+use Rattle.histories.specs.Courses.{IsStart, IsStateOf}
 use Rattle.histories.specs.Follows.{IsProper}
 use Rattle.histories.specs.Phases.{duty_of, is_idle}
 use Rattle.histories.specs.States.{SessionState, state_after}
@@ -18,7 +18,7 @@ use Rattle.histories.specs.TraceEvents.{TraceEvent, records_of}
 use Rattle.law_serving.specs.Kept.{ComponentsRunTheirItems, IdleIsSteady}
 use Rattle.law_serving.proofs.Records.{idle_is}
 use Rattle.law_supervisor.specs.Sound.{IsOrderly}
-use Rattle.law_termination.specs.Drives.{Drives}
+use Rattle.law_termination.specs.Drives.{AreDriven}
 use Rattle.law_termination.proofs.Comes.{none_drives}
 use Rattle.session_transitions.specs.Enters.{RunOn}
 use Rattle.session.specs.Parts.{IsBack, RanLeft}
@@ -49,8 +49,8 @@ one_origin a b x one two = cc
 module _ (runs : ComponentsRunTheirItems) (steady : IdleIsSteady) (q : SessionState) (h : List TraceEvent) (o : Origin) (origin : q.device.origin ≡ Some o)
     (proper : IsProper q h) (run : Run q.device (records_of h) (state_after q h).device) (made : AllRunFor o.platform q.world.parts)
     (mode : is_idle (duty_of q.device).phase ≡ true → q.world.steady ≡ true) where
-  pub up_behind : (d : Device) (w : Components) (told : Told) (living : List ℕ) → Stands (state_after q h) d w told living →
-      d.pending ≡ None → Drives w → AreUp d w
+  pub up_behind : (d : Device) (w : Components) (told : Told) (living : List ℕ) → IsStateOf (state_after q h) d w told living →
+      d.pending ≡ None → AreDriven w → AreUp d w
   up_behind d w told living s none drives =
       let all = runs q h o origin made proper run in record {
         drives = drives;
@@ -63,7 +63,7 @@ module _ (runs : ComponentsRunTheirItems) (steady : IdleIsSteady) (q : SessionSt
       }
 
   pub up_ran : {J : Type 0} (r : Ran J) (rose : Bool) (before : _) (w : Components) (told : Told) (living : List ℕ) →
-      RanLeft before r rose (state_after q h) w told living → (IsBack r → Drives w) → UpRan r w
+      RanLeft before r rose (state_after q h) w told living → (IsBack r → AreDriven w) → UpRan r w
   up_ran (ran.Back s st standing) rose before w told living left drives =
       up_behind (idle_device s) w told living left.0.stands left.0.idle_is (drives tt)
   up_ran (ran.Over st) rose before w told living left drives = tt
@@ -73,7 +73,7 @@ module _ (runs : ComponentsRunTheirItems) (steady : IdleIsSteady) (q : SessionSt
 pub none_run : (o : Origin) (w : Components) → w.parts ≡ [] → AllRunFor o.platform w.parts
 none_run o w none = subst (λ (ps : List ComponentState). AllRunFor o.platform ps) (sym none) tt
 
-pub begun_steady : (p : SessionState) (d : Device) (w : Components) (told : Told) (living : List ℕ) → IsStart p → Stands p d w told living → w.steady ≡ true
+pub begun_steady : (p : SessionState) (d : Device) (w : Components) (told : Told) (living : List ℕ) → IsStart p → IsStateOf p d w told living → w.steady ≡ true
 begun_steady p d w told living start s = sym (ap (λ (x : Components). x.steady) s.world_is) ∙ ap (λ (q : SessionState). q.world.steady) start
 
 pub none_up : (p : SessionState) (d : Device) (w : Components) → w.parts ≡ [] → w.steady ≡ true → AreUp d w

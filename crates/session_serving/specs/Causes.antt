@@ -8,10 +8,10 @@ use Rattle.disk_model.specs.declared.disk.Disk as a_disk
 use Rattle.edges.specs.declared.inbox.Inbox as an_inbox
 use Rattle.edges.specs.declared.sink.Sink as a_sink
 use Rattle.library_core.specs.declared.library.Library as a_library
-use Rattle.session.specs.Calls.{Elsewhere, Stays}
+use Rattle.session.specs.Calls.{AreOthersSame, HasNotFallen}
 
 -- how each file reads at some moment, and how often each object has failed
-pub record Watched : Type 0 where
+pub record Observation : Type 0 where
   pub image : Image
   pub disk : ℕ
   pub sink : ℕ
@@ -19,17 +19,17 @@ pub record Watched : Type 0 where
   pub inbox : ℕ
 
 module _ {D K L I : Type 0} (disk : a_disk.Ghosts D) (sink : a_sink.Ghosts K) (library : a_library.Ghosts L) (inbox : an_inbox.Ghosts I) where
-  abbrev pub watched : D → K → L → I → Watched
-  watched d k l i =
+  abbrev pub observation : D → K → L → I → Observation
+  observation d k l i =
       record { image = disk.seen d; disk = disk.faults d; sink = sink.faults k; library = library.faults l; inbox = inbox.faults i }
 
 -- The disk's status comes only where the disk's count rose, and the edge's only where that of the sink or of the inbox did. With
 -- another status no count but the library's changes. None falls. Every file but the journal's and those of artifacts is as before.
-pub record IsCaused (is_modelled : Bool) (files : List ℕ → Type 0) (status : Status) (old new : Watched) : Type 0 where
+pub record IsCaused (is_modelled : Bool) (files : List ℕ → Type 0) (status : Status) (old new : Observation) : Type 0 where
   pub disk : status ≡ statuses.Disk → Rose old.disk new.disk
   pub edge : status ≡ statuses.Edge → Rose old.sink new.sink ⊎ Rose old.inbox new.inbox
   pub quiet_disk : status ≢ statuses.Disk → status ≢ statuses.Edge → new.disk ≡ old.disk
   pub quiet_edges : status ≢ statuses.Edge → (new.sink ≡ old.sink) × (new.inbox ≡ old.inbox)
-  pub later : Stays old.disk new.disk × Stays old.sink new.sink × Stays old.inbox new.inbox
+  pub later : HasNotFallen old.disk new.disk × HasNotFallen old.sink new.sink × HasNotFallen old.inbox new.inbox
   pub library_later : old.library ≤ new.library
-  pub others : IsTrue is_modelled → Elsewhere files old.image new.image
+  pub others : IsTrue is_modelled → AreOthersSame files old.image new.image

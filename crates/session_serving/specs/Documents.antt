@@ -25,11 +25,11 @@ use Rattle.session_boots.specs.Lines.{lines_of}
 use Rattle.session_boots.specs.declared.ends.Booted.TheVariants as booted
 use Rattle.session_startup.specs.Ended.{ClosesAs}
 use Rattle.session.specs.Calls.{IsPendingAs}
-use Rattle.session.specs.Documents.{Follows, TakesRead}
-use Rattle.session.specs.Endings.{Ending, Breaks, Closes, Declines, Fails, Forgets, Full, Idle, Reboots, Restarts, Starves}
+use Rattle.session.specs.Documents.{TakenEnding, TakesRead}
+use Rattle.session.specs.Endings.{Ending, BySinkFault, ByClose, ByDecline, ByDiskFault, WantAfter, Full, Idle, ByReboot, ByRestart, WantBefore}
 use Rattle.session.specs.Endings.{line_of_ending, status_of_ending}
 use Rattle.session.specs.Parts.{EndsCall}
-use Rattle.session_serving.specs.Parts.{AllStandFor, Goes, HoldsOn, IsStarted, IsSure, Outside, Writes}
+use Rattle.session_serving.specs.Parts.{AllStandFor, HistoryKept, HoldsOn, IsStarted, IsSure, Outside, LinesWritten}
 use Rattle.session_serving.specs.Rounds.{Handled, SaysStopped}
 
 -- ---- what is promised of one document
@@ -37,14 +37,14 @@ use Rattle.session_serving.specs.Rounds.{Handled, SaysStopped}
 -- The last of the records is that the deployment closed so, and nothing is pending; or it asks for the restart or the reboot of the
 -- pending deployment. Want of memory leaves no deployment unfinished, and where none was begun there is no record.
 abbrev pub RecordsEnd : Ending → List Record → Device → Type 0
-RecordsEnd (Closes o) records d = ClosesAs o records × (d.pending ≡ None)
-RecordsEnd (Restarts id) records d = AsksFor booted.Restart records d × IsPendingAs id d
-RecordsEnd (Reboots id) records d = AsksFor booted.Reboot records d × IsPendingAs id d
-RecordsEnd Fails records d = ⊤
-RecordsEnd Breaks records d = ⊤
-RecordsEnd Forgets records d = (o : Outcome) × ClosesAs o records
-RecordsEnd Starves records d = records ≡ []
-RecordsEnd (Declines x) records d = records ≡ []
+RecordsEnd (ByClose o) records d = ClosesAs o records × (d.pending ≡ None)
+RecordsEnd (ByRestart id) records d = AsksFor booted.Restart records d × IsPendingAs id d
+RecordsEnd (ByReboot id) records d = AsksFor booted.Reboot records d × IsPendingAs id d
+RecordsEnd ByDiskFault records d = ⊤
+RecordsEnd BySinkFault records d = ⊤
+RecordsEnd WantAfter records d = (o : Outcome) × ClosesAs o records
+RecordsEnd WantBefore records d = records ≡ []
+RecordsEnd (ByDecline x) records d = records ≡ []
 RecordsEnd (Full at) records d = records ≡ []
 RecordsEnd Idle records d = records ≡ []
 
@@ -59,19 +59,19 @@ pub record IsDeployedThere (content : Option Content) (x : Handled) : Type 0 whe
   pub library_cause : HasLibraryFailed taken → Rose x.before x.after
   pub library_later : x.before ≤ x.after
   pub ending : Ending
-  pub follows : Follows x.start taken ending x.records
+  pub follows : TakenEnding x.start taken ending x.records
   pub ends : RecordsEnd ending x.records x.behind
-  pub failed : ending ≡ Fails → Rose x.disk_before x.disk_after
+  pub failed : ending ≡ ByDiskFault → Rose x.disk_before x.disk_after
   pub disk_cause : HasDiskFailed taken → Rose x.disk_before x.disk_after
   pub status : x.status ≡ status_of_ending ending
-  pub split : x.records ≡ x.told ++ x.untold
-  pub few : length x.untold ≤ 1
-  pub all : ending ≢ Fails → x.untold ≡ []
-  pub lines : x.lines ≡ lines_of x.device x.told ++ line_of_ending ending
+  pub split : x.records ≡ x.printed_records ++ x.unprinted_records
+  pub few : length x.unprinted_records ≤ 1
+  pub all : ending ≢ ByDiskFault → x.unprinted_records ≡ []
+  pub lines : x.lines ≡ lines_of x.device x.printed_records ++ line_of_ending ending
 
 -- with its own status, by which the call ends, or a line could not be written
-abbrev pub EndsWith : Status → Status → Type 0
-EndsWith own status = ((status ≡ own) × EndsCall own) ⊎ (status ≡ statuses.Edge)
+abbrev pub IsOwnOrEdge : Status → Status → Type 0
+IsOwnOrEdge own status = ((status ≡ own) × EndsCall own) ⊎ (status ≡ statuses.Edge)
 
 -- ---- in a part of a call
 
@@ -90,7 +90,7 @@ module _ {D J : Type 0} (disk : a_disk.Ghosts D) (journal : a_journal.Ghosts J) 
 
   -- It was handled, and the call goes on: `old` and `new` agree on the inbox.
   pub record IsHandled (old new : Outside D) (p : SessionState) (h : List TraceEvent) (x : Handled) : Type 0 where
-    pub goes : Goes disk journal old.disk new.disk old.list new.list p h
+    pub goes : HistoryKept disk journal old.disk new.disk old.list new.list p h
     pub stands : AllStandFor disk journal new.disk (state_after p h).device
     pub holds : HoldsOn disk journal old.disk new.disk p h
     pub lines : Appends old.held new.held x.lines
@@ -107,14 +107,14 @@ module _ {D J : Type 0} (disk : a_disk.Ghosts D) (journal : a_journal.Ghosts J) 
 
   -- its handling ends the call
   pub record IsEnded (old new : Outside D) (p : SessionState) (h : List TraceEvent) (x : Handled) (status : Status) (rose : Bool) : Type 0 where
-    pub goes : Goes disk journal old.disk new.disk old.list new.list p h
+    pub goes : HistoryKept disk journal old.disk new.disk old.list new.list p h
     pub sure : IsSure disk journal new.disk p h
-    pub stable : x.untold ≡ [] → AllStandFor disk journal new.disk (state_after p h).device
+    pub stable : x.unprinted_records ≡ [] → AllStandFor disk journal new.disk (state_after p h).device
     pub lines : List ℕ
     pub says : SaysStopped x status lines
-    pub writes : Writes disk journal old.held new.held status lines
+    pub writes : LinesWritten disk journal old.held new.held status lines
     pub is_of : IsOf old new p h x
-    pub with_status : EndsWith x.status status
+    pub with_status : IsOwnOrEdge x.status status
     pub cause : rose ≡ true → Rose old.faults new.faults
     pub end : IsEnd (state_after p h) status rose
 

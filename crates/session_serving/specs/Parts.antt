@@ -4,7 +4,7 @@ use Rattle.std.specs.Io.KnownBytes.{Appends}
 use Rattle.nuc_base.specs.Faults.{Rose}
 use Rattle.nuc_base.specs.declared.status.Status.{Status}
 use Rattle.nuc_base.specs.declared.status.Status.TheVariants as statuses
-use Rattle.disk_model.specs.Disk.{Image, Leaves}
+use Rattle.disk_model.specs.Disk.{Image, HasLeft}
 use Rattle.disk_model.specs.declared.disk.Disk as a_disk
 use Rattle.gate_log.specs.declared.journal.Journal as a_journal
 use Rattle.edges.specs.declared.answered.Answered.{Answered}
@@ -19,7 +19,7 @@ use Rattle.device.specs.Standing.{StandsFor}
 use Rattle.deploy_state.specs.Turning.{plan_bytes, start_of}
 use Rattle.records.specs.Stored.{Accepted, Plan, Record}
 use Rattle.artifact_store.specs.Holding.{AllHoldDevice}
-use Rattle.step_runner.specs.Entries.{Grows}
+use Rattle.step_runner.specs.Entries.{HasGrownBy}
 use Rattle.step_runner.specs.declared.entries.RunnerEntry.{RunnerEntry}
 use Rattle.step_runner.specs.declared.runner.Runner as a_runner
 use Rattle.histories.specs.Courses.{IsEnd}
@@ -30,8 +30,9 @@ use Rattle.session_boots.specs.Ends.{StopsAt}
 use Rattle.session_boots.specs.Traces.{StandsForMost, StandsForPrefix}
 use Rattle.session.specs.Calls.{StandsWhole}
 use Rattle.session.specs.Documents.{HasAcceptedTo}
-use Rattle.session_serving.specs.Rounds.{AreHandled, AreStarted, Gives, Handled, Last, Round, answered_by, lines_of_rounds, records_of_last, records_of_rounds}
-use Rattle.session_serving.specs.Rounds.{SaysLast, questions_of, questions_of_rounds, round_of_last, untold_of_last}
+use Rattle.session_serving.specs.Rounds.{AreHandled, AreStarted, WaitingLeft, Handled, LastRound, Round, answered_by, lines_of_rounds, records_of_last}
+use Rattle.session_serving.specs.Rounds.{records_of_rounds}
+use Rattle.session_serving.specs.Rounds.{SaysLast, questions_of, questions_of_rounds, round_of_last, unprinted_of_last}
 
 -- what is seen of the objects of a call at some moment; `faults` is the disk's count of them, and `library` is the library's
 pub record Outside (D : Type 0) : Type 0 where
@@ -65,14 +66,14 @@ module _ {D J : Type 0} (disk : a_disk.Ghosts D) (journal : a_journal.Ghosts J) 
   abbrev pub AllStandFor : D → Device → Type 0
   AllStandFor now d = (c : Image) → disk.may_leave now c → StandsFor journal.entries c d
 
-  -- From a state on this happened, and the disk keeps it: at each moment each image stands for what a front of the records makes
+  -- From a state on this happened, and the disk keeps it: at each moment each image stands for what a prefix of the records makes
   -- of the device, with all artifacts of that where those of the start had theirs.
-  pub record Goes (old new : D) (old_list new_list : Option (List RunnerEntry)) (p : SessionState) (h : List TraceEvent) : Type 0 where
+  pub record HistoryKept (old new : D) (old_list new_list : Option (List RunnerEntry)) (p : SessionState) (h : List TraceEvent) : Type 0 where
     pub proper : IsProper p h
     pub run : Run p.device (records_of h) (state_after p h).device
-    pub list : Grows old_list new_list (entries_of h)
-    pub images : Leaves disk.moment disk.left_since old new (StandsForPrefix journal.entries p.device (records_of h))
-    pub whole : AllHoldDevice (disk.may_leave old) p.device → Leaves disk.moment disk.left_since old new (StandsWhole journal.entries p.device (records_of h))
+    pub list : HasGrownBy old_list new_list (entries_of h)
+    pub images : HasLeft disk.moment disk.left_since old new (StandsForPrefix journal.entries p.device (records_of h))
+    pub whole : AllHoldDevice (disk.may_leave old) p.device → HasLeft disk.moment disk.left_since old new (StandsWhole journal.entries p.device (records_of h))
 
   -- where each image at the start has the artifacts of its device, each has those of the device at the end
   abbrev pub HoldsOn : D → D → SessionState → List TraceEvent → Type 0
@@ -86,8 +87,8 @@ module _ {D J : Type 0} (disk : a_disk.Ghosts D) (journal : a_journal.Ghosts J) 
     pub start_is : start ≡ start_of journal.end journal.number journal.turns log d
 
   -- where the disk tells, an image that a crash at some moment between these two may have left has such a journal
-  abbrev pub Shows : D → D → Device → (ℕ → ℕ) → Type 0
-  Shows old new d start = IsTrue disk.is_modelled → (c : Image) × disk.left_since new (disk.moment old) c × StartsIn c d start
+  abbrev pub IsStartShown : D → D → Device → (ℕ → ℕ) → Type 0
+  IsStartShown old new d start = IsTrue disk.is_modelled → (c : Image) × disk.left_since new (disk.moment old) c × StartsIn c d start
 
   -- A plan that its records accept has its entry from there: at some moment between these two the live entries end behind it, unless the disk
   -- failed as that was added.
@@ -98,11 +99,11 @@ module _ {D J : Type 0} (disk : a_disk.Ghosts D) (journal : a_journal.Ghosts J) 
 
   -- The journal from which this document went on is shown, and from there the entry of its plan.
   abbrev pub IsStarted : D → D → Handled → Type 0
-  IsStarted old new x = Shows old new x.device x.start × HasEntryThere old new x
+  IsStarted old new x = IsStartShown old new x.device x.start × HasEntryThere old new x
 
   -- So many turns went by: one round each. All their lines are written, and the disk did not fail.
-  pub record Turns (Clause : Handled → Type 0) (old new : Outside D) (p : SessionState) (h : List TraceEvent) (rounds : List Round) : Type 0 where
-    pub goes : Goes old.disk new.disk old.list new.list p h
+  pub record TurnsPassed (Clause : Handled → Type 0) (old new : Outside D) (p : SessionState) (h : List TraceEvent) (rounds : List Round) : Type 0 where
+    pub goes : HistoryKept old.disk new.disk old.list new.list p h
     pub stands : AllStandFor new.disk (state_after p h).device
     pub holds : HoldsOn old.disk new.disk p h
     pub lines : Appends old.held new.held (lines_of_rounds rounds)
@@ -110,7 +111,7 @@ module _ {D J : Type 0} (disk : a_disk.Ghosts D) (journal : a_journal.Ghosts J) 
     pub asked : questions_of h ≡ questions_of_rounds rounds
     pub handled : AreHandled Clause p.device old.library rounds (state_after p h).device new.library
     pub answered : new.answered ≡ answered_by rounds old.answered
-    pub given : Gives old.waiting new.waiting rounds
+    pub given : WaitingLeft old.waiting new.waiting rounds
     pub turns : (state_after p h).turns + length rounds ≡ p.turns
     pub faults : new.faults ≡ old.faults
     pub starts : AreStarted (IsStarted old.disk new.disk) rounds
@@ -121,21 +122,21 @@ module _ {D J : Type 0} (disk : a_disk.Ghosts D) (journal : a_journal.Ghosts J) 
     pub most : (c : Image) → disk.may_leave new c → StandsForMost journal.entries p.device (records_of h) c
     pub doubt : AllStandFor new (state_after p h).device ⊎ StopsAt h
 
-  -- these lines are written, or where the sink failed a front of them
-  pub record Writes (old new : Option (List ℕ)) (status : Status) (lines : List ℕ) : Type 0 where
-    pub front : AppendsPrefix old new lines
+  -- these lines are written, or where the sink failed a prefix of them
+  pub record LinesWritten (old new : Option (List ℕ)) (status : Status) (lines : List ℕ) : Type 0 where
+    pub prefix : AppendsPrefix old new lines
     pub all : status ≢ statuses.Edge → Appends old new lines
 
   -- A turn with which the call ends, as a session ends that answers this status: no child lives. Where the line of none of its records
   -- is missing the disk holds them all. It ends as one whose disk failed only where the disk's count rose.
-  pub record Ends (Why : Last → Status → Outside D → Outside D → Device → Type 0) (old new : Outside D) (p : SessionState) (h : List TraceEvent)
-      (last : Last) (status : Status) (rose : Bool) : Type 0 where
-    pub goes : Goes old.disk new.disk old.list new.list p h
+  pub record CallEnded (Why : LastRound → Status → Outside D → Outside D → Device → Type 0) (old new : Outside D) (p : SessionState) (h : List TraceEvent)
+      (last : LastRound) (status : Status) (rose : Bool) : Type 0 where
+    pub goes : HistoryKept old.disk new.disk old.list new.list p h
     pub sure : IsSure new.disk p h
-    pub stable : untold_of_last last ≡ [] → AllStandFor new.disk (state_after p h).device
+    pub stable : unprinted_of_last last ≡ [] → AllStandFor new.disk (state_after p h).device
     pub lines : List ℕ
     pub says : SaysLast last status lines
-    pub writes : Writes old.held new.held status lines
+    pub writes : LinesWritten old.held new.held status lines
     pub records : records_of h ≡ records_of_last last
     pub why : Why last status old new p.device
     pub starts : AreStarted (IsStarted old.disk new.disk) (round_of_last last)

@@ -9,7 +9,7 @@ use Rattle.histories.specs.Follows.{MayChangeIn}
 use Rattle.histories.specs.Phases.{idle}
 use Rattle.histories.specs.States.{SessionState}
 use Rattle.histories.specs.TraceEvents.{Answer, is_document}
-use Rattle.law_termination.specs.Drives.{Drives}
+use Rattle.law_termination.specs.Drives.{AreDriven}
 use Rattle.session_boots.specs.Stands.{IsAtBootStage}
 use Rattle.session_acts.specs.Runs.{IsInTurn}
 use Rattle.session_steady.specs.Serves.{IsSteady}
@@ -19,7 +19,7 @@ use Rattle.session.specs.Parts.{IsReturned}
 -- The components while no deployment is driven: loops over them end, and each runs its item as the item's recipe says for the
 -- device's platform.
 pub record AreUp (d : Device) (w : Components) : Type 0 where
-  pub drives : Drives w
+  pub drives : AreDriven w
   pub steady : w.steady ≡ true
   pub made : RunOn d w.parts
 

@@ -24,8 +24,8 @@ pub record Handled : Type 0 where
   pub bytes : List ℕ
   pub device : Device
   pub records : List Record
-  pub told : List Record
-  pub untold : List Record
+  pub printed_records : List Record
+  pub unprinted_records : List Record
   pub behind : Device
   pub lines : List ℕ
   pub status : Status
@@ -89,9 +89,9 @@ waiting_behind (Waited ∷ rounds) w = waiting_behind rounds w
 waiting_behind (Took x ∷ rounds) w = waiting_behind rounds (without_first w)
 
 -- what waits behind the rounds, where the inbox tells it
-abbrev pub Gives : Option Waiting → Option Waiting → List Round → Type 0
-Gives None new rounds = new ≡ None
-Gives (Some w) new rounds = AreGiven w rounds × (new ≡ Some (waiting_behind rounds w))
+abbrev pub WaitingLeft : Option Waiting → Option Waiting → List Round → Type 0
+WaitingLeft None new rounds = new ≡ None
+WaitingLeft (Some w) new rounds = AreGiven w rounds × (new ≡ Some (waiting_behind rounds w))
 
 -- ---- each document by what is promised of one, for the device of its turn
 
@@ -112,35 +112,35 @@ AreStarted Started (Took x ∷ rounds) = Started x × AreStarted Started rounds
 
 -- ---- the last round
 
-pub data Last : Type 0 where
-  Spent : Last  -- the inbox was asked as often as it is to be
-  Shut : Last  -- it is closed
-  Stops : (handled : Handled) → Last  -- the handling of a document ends the call, or the document could not be done
-  Fails : Last  -- it could not be asked
-  Starves : Last  -- there is no memory for an answer or to bring the set up, or the clock stands at its end
+pub data LastRound : Type 0 where
+  Spent : LastRound  -- the inbox was asked as often as it is to be
+  Shut : LastRound  -- it is closed
+  StoppedBy : (handled : Handled) → LastRound  -- the handling of a document ends the call, or the document could not be done
+  InboxFailed : LastRound  -- it could not be asked
+  WantOfMemory : LastRound  -- there is no memory for an answer or to bring the set up, or the clock stands at its end
 
-abbrev pub records_of_last : Last → List Record
+abbrev pub records_of_last : LastRound → List Record
 records_of_last Spent = []
 records_of_last Shut = []
-records_of_last (Stops x) = x.records
-records_of_last Fails = []
-records_of_last Starves = []
+records_of_last (StoppedBy x) = x.records
+records_of_last InboxFailed = []
+records_of_last WantOfMemory = []
 
 -- the document of the last round
-abbrev pub round_of_last : Last → List Round
-round_of_last (Stops x) = Took x ∷ []
+abbrev pub round_of_last : LastRound → List Round
+round_of_last (StoppedBy x) = Took x ∷ []
 round_of_last Spent = []
 round_of_last Shut = []
-round_of_last Fails = []
-round_of_last Starves = []
+round_of_last InboxFailed = []
+round_of_last WantOfMemory = []
 
 -- how often the inbox answered in it
-abbrev pub asked_of_last : Last → ℕ
+abbrev pub asked_of_last : LastRound → ℕ
 asked_of_last Spent = 0
 asked_of_last Shut = 1
-asked_of_last (Stops x) = 1
-asked_of_last Fails = 0
-asked_of_last Starves = 0
+asked_of_last (StoppedBy x) = 1
+asked_of_last InboxFailed = 0
+asked_of_last WantOfMemory = 0
 
 abbrev pub inbox_fault_line : List ℕ
 inbox_fault_line = codes "fault 6 inbox\n"
@@ -150,16 +150,16 @@ abbrev pub SaysStopped : Handled → Status → List ℕ → Type 0
 SaysStopped x status lines = (lines ≡ x.lines) ⊎ ((lines ≡ x.lines ++ inbox_fault_line) × (status ≡ statuses.Edge))
 
 -- what it says, but that the turns are over
-abbrev pub SaysLast : Last → Status → List ℕ → Type 0
+abbrev pub SaysLast : LastRound → Status → List ℕ → Type 0
 SaysLast Spent status lines = ⊤
 SaysLast Shut status lines = lines ≡ []
-SaysLast (Stops x) status lines = SaysStopped x status lines
-SaysLast Fails status lines = lines ≡ inbox_fault_line
-SaysLast Starves status lines = lines ≡ []
+SaysLast (StoppedBy x) status lines = SaysStopped x status lines
+SaysLast InboxFailed status lines = lines ≡ inbox_fault_line
+SaysLast WantOfMemory status lines = lines ≡ []
 
-abbrev pub untold_of_last : Last → List Record
-untold_of_last (Stops x) = x.untold
-untold_of_last Spent = []
-untold_of_last Shut = []
-untold_of_last Fails = []
-untold_of_last Starves = []
+abbrev pub unprinted_of_last : LastRound → List Record
+unprinted_of_last (StoppedBy x) = x.unprinted_records
+unprinted_of_last Spent = []
+unprinted_of_last Shut = []
+unprinted_of_last InboxFailed = []
+unprinted_of_last WantOfMemory = []

@@ -18,15 +18,15 @@ use Rattle.histories.specs.States.{SessionState, state_after}
 use Rattle.histories.specs.TraceEvents.{Answer, TraceEvent, records_of}
 use Rattle.session_startup.specs.Ended.{ClosesAs}
 use Rattle.session.specs.Calls.{QuitsAt, call_lines}
-use Rattle.session.specs.Endings.{Ending, Fails as DiskFails, Resumes, Starves, is_failing, status_of_ending}
+use Rattle.session.specs.Endings.{Ending, ByDiskFault, ResumeEnding, WantBefore, is_failing, status_of_ending}
 use Rattle.session.specs.declared.ran.Ran.{Ran}
 use Rattle.session.specs.declared.ran.Ran.TheVariants as ran
-use Rattle.session_serving.specs.Documents.{EndsWith, RecordsEnd}
-use Rattle.session_serving.specs.Parts.{AllStandFor, Goes, HoldsOn, IsStarted, IsSure, Outside, Writes}
+use Rattle.session_serving.specs.Documents.{IsOwnOrEdge, RecordsEnd}
+use Rattle.session_serving.specs.Parts.{AllStandFor, HistoryKept, HoldsOn, IsStarted, IsSure, Outside, LinesWritten}
 use Rattle.session_serving.specs.Places.{IsUnopened}
-use Rattle.session_serving.specs.Rounds.{AreHandled, AreStarted, Gives, Handled, Last, Round, Spent, Shut, answered_by, lines_of_rounds}
+use Rattle.session_serving.specs.Rounds.{AreHandled, AreStarted, WaitingLeft, Handled, LastRound, Round, Spent, Shut, answered_by, lines_of_rounds}
 use Rattle.session_serving.specs.Rounds.{SaysLast, asked_of_last, questions_of, questions_of_rounds, records_of_last, records_of_rounds}
-use Rattle.session_serving.specs.Rounds.{round_of_last, untold_of_last}
+use Rattle.session_serving.specs.Rounds.{round_of_last, unprinted_of_last}
 use Rattle.session_serving.specs.Turns.{AsksNone, EndsBy, SaysClosed}
 
 -- the turns are over
@@ -35,7 +35,7 @@ ended_line turns = codes "ended 17 " ++ (decimal turns ++ codes "\n")
 
 -- Why the call ends, and with which status: 17 exactly after so many questions, and 0 exactly where the inbox was closed, and then
 -- nothing is pending. A line that could not be written gives 6.
-abbrev pub EndsAs : (Handled → Type 0) → ℕ → {D : Type 0} → List Round → Last → Status → Outside D → Outside D → Device → Type 0
+abbrev pub EndsAs : (Handled → Type 0) → ℕ → {D : Type 0} → List Round → LastRound → Status → Outside D → Outside D → Device → Type 0
 EndsAs Clause most rounds Spent status old new d =
     (length rounds ≡ most) × ((status ≡ statuses.TurnsOver) ⊎ (status ≡ statuses.Edge)) × AsksNone old new × (d.pending ≡ None)
 EndsAs Clause most rounds Shut status old new d = (status ≡ statuses.Done) × SaysClosed old new × (d.pending ≡ None)
@@ -45,24 +45,24 @@ module _ {D J : Type 0} (disk : a_disk.Ghosts D) (journal : a_journal.Ghosts J) 
   -- From a state on, in which the set is to be brought up, to the end of the call. `to` is what is seen outside behind the last round
   -- that went by, and `behind` the device then.
   pub record IsSetServed (most : ℕ) (old new : Outside D) (p : SessionState) (h : List TraceEvent) (status : Status) : Type 0 where
-    pub goes : Goes disk journal old.disk new.disk old.list new.list p h
+    pub goes : HistoryKept disk journal old.disk new.disk old.list new.list p h
     pub sure : IsSure disk journal new.disk p h
     pub rounds : List Round
-    pub last : Last
-    pub stable : untold_of_last last ≡ [] → AllStandFor disk journal new.disk (state_after p h).device
+    pub last : LastRound
+    pub stable : unprinted_of_last last ≡ [] → AllStandFor disk journal new.disk (state_after p h).device
     pub to : Outside D
     pub behind : Device
     pub asked : length rounds + asked_of_last last ≤ most
     pub questions : (more : List Answer) × (questions_of h ≡ questions_of_rounds rounds ++ more)
     pub handled : AreHandled Clause p.device old.library rounds behind to.library
     pub answered : to.answered ≡ answered_by rounds old.answered
-    pub given : Gives old.waiting to.waiting rounds
+    pub given : WaitingLeft old.waiting to.waiting rounds
     pub starts : AreStarted (IsStarted disk journal old.disk new.disk) (rounds ++ round_of_last last)
     pub records : records_of h ≡ records_of_rounds rounds ++ records_of_last last
     pub ends : EndsAs Clause most rounds last status to new behind
     pub lines : List ℕ
     pub says : SaysLast last status lines
-    pub writes : Writes disk journal old.held new.held status (lines_of_rounds rounds ++ lines)
+    pub writes : LinesWritten disk journal old.held new.held status (lines_of_rounds rounds ++ lines)
     pub spent : last ≡ Spent → lines ≡ ended_line most
     pub rose : Bool
     pub cause : rose ≡ true → Rose old.faults new.faults
@@ -77,30 +77,30 @@ AreClosed records = (records ≡ []) ⊎ ((o : Outcome) × ClosesAs o records)
 -- The pending deployment went on to this ending and left this device, and no plan was accepted. These are its lines, where the disk failed perhaps without the
 -- last record's.
 pub record IsPendingResumed (d : Device) (records : List Record) (behind : Device) (lines : List ℕ) (ending : Ending) : Type 0 where
-  pub resumes : Resumes d ending
+  pub resumes : ResumeEnding d ending
   pub ends : RecordsEnd ending records behind
   pub once : TakesOnce true records
-  pub told : List Record
+  pub printed_records : List Record
   pub rest : List Record
-  pub split : records ≡ told ++ rest
+  pub split : records ≡ printed_records ++ rest
   pub few : length rest ≤ 1
-  pub all : ending ≢ DiskFails → rest ≡ []
-  pub lines_are : lines ≡ call_lines d told ending
+  pub all : ending ≢ ByDiskFault → rest ≡ []
+  pub lines_are : lines ≡ call_lines d printed_records ending
 
 -- it did, or nothing was pending and nothing was done
-abbrev pub Finishes : Device → List Record → Device → List ℕ → Ending → Type 0
-Finishes d records behind lines ending =
+abbrev pub IsResumedOrIdle : Device → List Record → Device → List ℕ → Ending → Type 0
+IsResumedOrIdle d records behind lines ending =
     (d.pending ≢ None × IsPendingResumed d records behind lines ending) ⊎ ((d.pending ≡ None) × (records ≡ []) × (lines ≡ []))
 
 module _ {D J : Type 0} (disk : a_disk.Ghosts D) (journal : a_journal.Ghosts J) where
   -- and the call goes on, with the deployment closed
   pub record IsFinished (old new : Outside D) (p : SessionState) (h : List TraceEvent) : Type 0 where
-    pub goes : Goes disk journal old.disk new.disk old.list new.list p h
+    pub goes : HistoryKept disk journal old.disk new.disk old.list new.list p h
     pub stands : AllStandFor disk journal new.disk (state_after p h).device
     pub holds : HoldsOn disk journal old.disk new.disk p h
     pub lines : List ℕ
     pub ending : Ending
-    pub first : Finishes p.device (records_of h) (state_after p h).device lines ending
+    pub first : IsResumedOrIdle p.device (records_of h) (state_after p h).device lines ending
     pub closed : p.device.pending ≢ None → (o : Outcome) × ClosesAs o (records_of h)
     pub writes : Appends old.held new.held lines
     pub turns : (state_after p h).turns ≡ p.turns
@@ -109,16 +109,16 @@ module _ {D J : Type 0} (disk : a_disk.Ghosts D) (journal : a_journal.Ghosts J) 
   -- Or it ends the call. For want of memory nothing of it is begun; and it ends for the disk only where the disk's count rose. Where the call gives
   -- up nothing is done behind the last record but that its children are killed.
   pub record IsHalted (old new : Outside D) (p : SessionState) (h : List TraceEvent) (status : Status) : Type 0 where
-    pub goes : Goes disk journal old.disk new.disk old.list new.list p h
+    pub goes : HistoryKept disk journal old.disk new.disk old.list new.list p h
     pub sure : IsSure disk journal new.disk p h
     pub lines : List ℕ
     pub ending : Ending
     pub first : IsPendingResumed p.device (records_of h) (state_after p h).device lines ending
     pub stable : first.rest ≡ [] → AllStandFor disk journal new.disk (state_after p h).device
-    pub failed : ending ≡ DiskFails → Rose old.faults new.faults
-    pub unbegun : ending ≡ Starves → h ≡ []
-    pub with_status : EndsWith (status_of_ending ending) status
-    pub writes : Writes disk journal old.held new.held status lines
+    pub failed : ending ≡ ByDiskFault → Rose old.faults new.faults
+    pub unbegun : ending ≡ WantBefore → h ≡ []
+    pub with_status : IsOwnOrEdge (status_of_ending ending) status
+    pub writes : LinesWritten disk journal old.held new.held status lines
     pub end : IsEnd (state_after p h) status (is_failing ending)
     pub quits : gives_up status ≡ true → QuitsAt h
 
@@ -130,7 +130,7 @@ module _ {D J : Type 0} (disk : a_disk.Ghosts D) (journal : a_journal.Ghosts J) 
   -- A whole call: its pending deployment ends it, and the inbox is not asked; or that was finished, and the set is served. Want of
   -- memory leaves no deployment unfinished that was accepted or driven on in it.
   pub record IsWholeCall (Clause : Handled → Type 0) (most : ℕ) (old new : Outside D) (p : SessionState) (h : List TraceEvent) (status : Status) : Type 0 where
-    pub goes : Goes disk journal old.disk new.disk old.list new.list p h
+    pub goes : HistoryKept disk journal old.disk new.disk old.list new.list p h
     pub memory : status ≡ statuses.Memory → AreClosed (records_of h)
     pub parts : (IsHalted old new p h status × (new.answered ≡ old.answered) × (new.waiting ≡ old.waiting) × (new.library ≡ old.library))
         ⊎ ((before g : List TraceEvent) × (to : Outside D) × (h ≡ g ++ before) × (to.answered ≡ old.answered) × (to.waiting ≡ old.waiting)

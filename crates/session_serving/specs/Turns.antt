@@ -29,10 +29,10 @@ use Rattle.session.specs.declared.ran.Standing.{Standing}
 use Rattle.session.specs.declared.ran.Standing.TheVariants as standings
 use Rattle.session_serving.specs.declared.turned.Turned.{Turned}
 use Rattle.session_serving.specs.declared.turned.Turned.TheVariants as turned
-use Rattle.session_serving.specs.Documents.{EndsWith, IsDone, IsEnded, IsHandled, IsLastDone}
-use Rattle.session_serving.specs.Parts.{AllStandFor, Ends, Goes, HoldsOn, Outside, Turns}
+use Rattle.session_serving.specs.Documents.{IsOwnOrEdge, IsDone, IsEnded, IsHandled, IsLastDone}
+use Rattle.session_serving.specs.Parts.{AllStandFor, CallEnded, HistoryKept, HoldsOn, Outside, TurnsPassed}
 use Rattle.session_serving.specs.Places.{AreUp, IsUnopened}
-use Rattle.session_serving.specs.Rounds.{Handled, Last, Round, Spent, Shut, Stops, Fails, Starves, asked_of_last, inbox_fault_line}
+use Rattle.session_serving.specs.Rounds.{Handled, LastRound, Round, Spent, Shut, StoppedBy, InboxFailed, WantOfMemory, asked_of_last, inbox_fault_line}
 
 -- ---- lines
 
@@ -52,7 +52,7 @@ pub record StopsBy (Clause : Handled → Type 0) {D : Type 0} (x : Handled) (sta
   pub next : IfSome old.waiting (λ w. next_of w.documents w.closed ≡ GivesDocument x.bytes)
   pub run : Run d x.records x.behind
   pub clause : Clause x
-  pub with_status : EndsWith x.status status
+  pub with_status : IsOwnOrEdge x.status status
   pub answered : new.answered ≡ (if is_restart status then after_done (after_answer Document old.answered) else after_answer Document old.answered)
   pub given : new.waiting ≡ (if is_restart status then option_map without_first old.waiting else old.waiting)
 
@@ -62,12 +62,12 @@ pub record AsksNone {D : Type 0} (old new : Outside D) : Type 0 where
   pub waiting : new.waiting ≡ old.waiting
   pub library : new.library ≡ old.library
 
-abbrev pub EndsBy : (Handled → Type 0) → {D : Type 0} → Last → Status → Outside D → Outside D → Device → Type 0
+abbrev pub EndsBy : (Handled → Type 0) → {D : Type 0} → LastRound → Status → Outside D → Outside D → Device → Type 0
 EndsBy Clause Spent status old new d = ⊥
 EndsBy Clause Shut status old new d = ⊥
-EndsBy Clause (Stops x) status old new d = StopsBy Clause x status old new d
-EndsBy Clause Fails status old new d = (status ≡ statuses.Edge) × AsksNone old new
-EndsBy Clause Starves status old new d = (status ≡ statuses.Memory) × AsksNone old new
+EndsBy Clause (StoppedBy x) status old new d = StopsBy Clause x status old new d
+EndsBy Clause InboxFailed status old new d = (status ≡ statuses.Edge) × AsksNone old new
+EndsBy Clause WantOfMemory status old new d = (status ≡ statuses.Memory) × AsksNone old new
 
 -- the inbox said that it is closed, as it was asked once more
 pub record SaysClosed {D : Type 0} (old new : Outside D) : Type 0 where
@@ -116,13 +116,13 @@ module _ {D J : Type 0} (disk : a_disk.Ghosts D) (journal : a_journal.Ghosts J) 
   HandleLeft bytes (turned.Over status) old new p h world told living =
       ((x : Handled) × (rose : Bool) × (x.bytes ≡ bytes) × IsLastDone disk journal Clause old new p h x status rose)
       ⊎ ((x : Handled) × (x.bytes ≡ bytes) × (before g : List TraceEvent) × (to : Outside D) × (h ≡ g ++ before)
-      × IsDone disk journal Clause old to p before x × Ends disk journal (EndsBy Clause) to new (state_after p before) g Starves status false)
+      × IsDone disk journal Clause old to p before x × CallEnded disk journal (EndsBy Clause) to new (state_after p before) g WantOfMemory status false)
 
   -- ---- turns
 
   -- one more question found the inbox closed
-  pub record Shuts (old new : Outside D) (p : SessionState) (h : List TraceEvent) : Type 0 where
-    pub goes : Goes disk journal old.disk new.disk old.list new.list p h
+  pub record InboxFoundClosed (old new : Outside D) (p : SessionState) (h : List TraceEvent) : Type 0 where
+    pub goes : HistoryKept disk journal old.disk new.disk old.list new.list p h
     pub stands : AllStandFor disk journal new.disk (state_after p h).device
     pub holds : HoldsOn disk journal old.disk new.disk p h
     pub none : records_of h ≡ []
@@ -132,24 +132,24 @@ module _ {D J : Type 0} (disk : a_disk.Ghosts D) (journal : a_journal.Ghosts J) 
   -- outside between.
   abbrev pub OverLeft : ℕ → Status → Outside D → Outside D → SessionState → List TraceEvent → Type 0
   OverLeft most status old new p h =
-      (before g : List TraceEvent) × (to : Outside D) × (rounds : List Round) × (last : Last) × (rose : Bool) × (h ≡ g ++ before)
-      × Turns disk journal Clause old to p before rounds × Ends disk journal (EndsBy Clause) to new (state_after p before) g last status rose
+      (before g : List TraceEvent) × (to : Outside D) × (rounds : List Round) × (last : LastRound) × (rose : Bool) × (h ≡ g ++ before)
+      × TurnsPassed disk journal Clause old to p before rounds × CallEnded disk journal (EndsBy Clause) to new (state_after p before) g last status rose
       × (length rounds + asked_of_last last ≤ most)
 
   abbrev pub TurnLeft : Turned J → Outside D → Outside D → SessionState → List TraceEvent → Components → Told → List ℕ → Type 0
   TurnLeft (turned.On s) old new p h world told living =
-      (round : Round) × Turns disk journal Clause old new p h (round ∷ []) × IsServing (state_after p h) (idle_device s) world told living
-  TurnLeft (turned.Shut s) old new p h world told living = Shuts old new p h × MayStop (state_after p h) (idle_device s) world told living
+      (round : Round) × TurnsPassed disk journal Clause old new p h (round ∷ []) × IsServing (state_after p h) (idle_device s) world told living
+  TurnLeft (turned.Shut s) old new p h world told living = InboxFoundClosed old new p h × MayStop (state_after p h) (idle_device s) world told living
   TurnLeft (turned.Over status) old new p h world told living = OverLeft 1 status old new p h
 
   -- so many turns went by; or fewer, and then the inbox was closed, or the call ends
   abbrev pub TurnsLeft : Turned J → ℕ → Outside D → Outside D → SessionState → List TraceEvent → Components → Told → List ℕ → Type 0
   TurnsLeft (turned.On s) most old new p h world told living =
-      (rounds : List Round) × Turns disk journal Clause old new p h rounds × (length rounds ≡ most)
+      (rounds : List Round) × TurnsPassed disk journal Clause old new p h rounds × (length rounds ≡ most)
       × IsServing (state_after p h) (idle_device s) world told living
   TurnsLeft (turned.Shut s) most old new p h world told living =
       (before g : List TraceEvent) × (to : Outside D) × (rounds : List Round) × (h ≡ g ++ before)
-      × Turns disk journal Clause old to p before rounds × Shuts to new (state_after p before) g
+      × TurnsPassed disk journal Clause old to p before rounds × InboxFoundClosed to new (state_after p before) g
       × (length rounds + 1 ≤ most) × MayStop (state_after p h) (idle_device s) world told living
   TurnsLeft (turned.Over status) most old new p h world told living = OverLeft most status old new p h
 

@@ -4,10 +4,10 @@ ghost use Rattle.deploy_state.specs.States.{OwnsIdle, OwnsLoaded, idle_device, l
 ghost use Rattle.admission.specs.Takes.{LieElsewhere};
 ghost use Rattle.histories.specs.States.{SessionState};
 ghost use Rattle.histories.specs.TraceEvents.{TraceEvent};
-ghost use Rattle.deploy_state.specs.Objects.{Holds};
+ghost use Rattle.deploy_state.specs.Objects.{OwnsOver};
 ghost use Rattle.session_boots.specs.Stages.{AsTold};
 ghost use Rattle.session_steady.specs.Serves.{IsServing};
-ghost use Rattle.session_serving.specs.Causes.{IsCaused, watched};
+ghost use Rattle.session_serving.specs.Causes.{IsCaused, observation};
 ghost use Rattle.session_serving.specs.Documents.{IsDeployedThere};
 ghost use Rattle.session_serving.specs.Parts.{AreOfFiles, outside};
 ghost use Rattle.session_serving.specs.Places.{AreUp, IsBegun, IsUnopened};
@@ -43,11 +43,11 @@ fn serve_turns<D: Disk, J: Journal + Drop, L: Library, I: Inbox, K: Sink, R: Run
 ) -> Status
 where
     S::Ready: Drop,
-    requires held { Holds D.Disk J.Journal OwnsIdle idle disk.old }
+    requires held { OwnsOver D.Disk J.Journal OwnsIdle idle disk.old }
     requires apart { LieElsewhere J.files }
     requires own { AreOfFiles J.files J.entries }
     requires up { AreUp (idle_device idle) (S.world supervisor.old) }
-    requires placed { (p : SessionState) × AsTold R.Runner runner.old (IsServing p (idle_device idle) (S.world supervisor.old)) × (p.turns ≡ turns) }
+    requires from_state { (p : SessionState) × AsTold R.Runner runner.old (IsServing p (idle_device idle) (S.world supervisor.old)) × (p.turns ≡ turns) }
     ensures served { (p : SessionState) → AsTold R.Runner runner.old (IsServing p (idle_device idle) (S.world supervisor.old)) → p.turns ≡ turns →
         (h : List TraceEvent) × IsSetServed D.Disk J.Journal (IsDeployedThere (L.content library.old)) turns
         (outside D.Disk K.Sink R.Runner L.Library I.Inbox disk.old sink.old runner.old library.old inbox.old)
@@ -56,8 +56,8 @@ where
     ensures none { R.living runner.new ≡ [] }
     ensures kept { L.content library.new ≡ L.content library.old }
     ensures caused { IsCaused D.is_modelled J.files result
-        (watched D.Disk K.Sink L.Library I.Inbox disk.old sink.old library.old inbox.old)
-        (watched D.Disk K.Sink L.Library I.Inbox disk.new sink.new library.new inbox.new) }
+        (observation D.Disk K.Sink L.Library I.Inbox disk.old sink.old library.old inbox.old)
+        (observation D.Disk K.Sink L.Library I.Inbox disk.new sink.new library.new inbox.new) }
 {
     match take_turns(
         alloc, idle, turns, disk, library, inbox, sink, runner, supervisor,
@@ -92,11 +92,11 @@ fn serve_set<D: Disk, J: Journal + Drop, L: Library, I: Inbox, K: Sink, R: Runne
 ) -> Status
 where
     S::Ready: Drop,
-    requires held { Holds D.Disk J.Journal OwnsIdle idle disk.old }
+    requires held { OwnsOver D.Disk J.Journal OwnsIdle idle disk.old }
     requires apart { LieElsewhere J.files }
     requires own { AreOfFiles J.files J.entries }
     requires up { AreUp (idle_device idle) (S.world supervisor.old) }
-    requires placed { (p : SessionState) × AsTold R.Runner runner.old (IsUnopened p (idle_device idle) (S.world supervisor.old)) × (p.turns ≡ turns) }
+    requires from_state { (p : SessionState) × AsTold R.Runner runner.old (IsUnopened p (idle_device idle) (S.world supervisor.old)) × (p.turns ≡ turns) }
     ensures served { (p : SessionState) → AsTold R.Runner runner.old (IsUnopened p (idle_device idle) (S.world supervisor.old)) → p.turns ≡ turns →
         (h : List TraceEvent) × IsSetServed D.Disk J.Journal (IsDeployedThere (L.content library.old)) turns
         (outside D.Disk K.Sink R.Runner L.Library I.Inbox disk.old sink.old runner.old library.old inbox.old)
@@ -105,8 +105,8 @@ where
     ensures none { R.living runner.new ≡ [] }
     ensures kept { L.content library.new ≡ L.content library.old }
     ensures caused { IsCaused D.is_modelled J.files result
-        (watched D.Disk K.Sink L.Library I.Inbox disk.old sink.old library.old inbox.old)
-        (watched D.Disk K.Sink L.Library I.Inbox disk.new sink.new library.new inbox.new) }
+        (observation D.Disk K.Sink L.Library I.Inbox disk.old sink.old library.old inbox.old)
+        (observation D.Disk K.Sink L.Library I.Inbox disk.new sink.new library.new inbox.new) }
 {
     match open_set(alloc, &idle, supervisor) {
         Ok(()) => serve_turns(
@@ -140,13 +140,13 @@ pub fn serve<D: Disk, J: Journal + Drop, L: Library, I: Inbox, K: Sink, R: Runne
 ) -> Status
 where
     S::Ready: Drop,
-    requires held { Holds D.Disk J.Journal OwnsLoaded state disk.old }
+    requires held { OwnsOver D.Disk J.Journal OwnsLoaded state disk.old }
     // The journal does not lie among the files of artifacts.
     requires apart { LieElsewhere J.files }
     requires own { AreOfFiles J.files J.entries }
     // No component stands.
     requires empty { (S.world supervisor.old).parts ≡ [] }
-    requires placed { (p : SessionState) × AsTold R.Runner runner.old (IsBegun p turns (loaded_device state) (S.world supervisor.old)) }
+    requires from_state { (p : SessionState) × AsTold R.Runner runner.old (IsBegun p turns (loaded_device state) (S.world supervisor.old)) }
     ensures served { (p : SessionState) → AsTold R.Runner runner.old (IsBegun p turns (loaded_device state) (S.world supervisor.old)) →
         (h : List TraceEvent) × IsWholeCall D.Disk J.Journal (IsDeployedThere (L.content library.old)) turns
         (outside D.Disk K.Sink R.Runner L.Library I.Inbox disk.old sink.old runner.old library.old inbox.old)
@@ -156,8 +156,8 @@ where
     ensures kept { L.content library.new ≡ L.content library.old }
     // It ends with 5 only where the disk's count rose, and with 6 only where the sink's or the inbox's did.
     ensures caused { IsCaused D.is_modelled J.files result
-        (watched D.Disk K.Sink L.Library I.Inbox disk.old sink.old library.old inbox.old)
-        (watched D.Disk K.Sink L.Library I.Inbox disk.new sink.new library.new inbox.new) }
+        (observation D.Disk K.Sink L.Library I.Inbox disk.old sink.old library.old inbox.old)
+        (observation D.Disk K.Sink L.Library I.Inbox disk.new sink.new library.new inbox.new) }
 {
     match finish_pending(alloc, state, disk, library, inbox, sink, runner, supervisor) {
         Ran::Back(idle, _, _) => serve_set(

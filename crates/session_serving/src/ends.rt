@@ -10,7 +10,7 @@ ghost use Rattle.histories.specs.Courses.{IsEnd, gives_up, is_restart};
 ghost use Rattle.histories.specs.States.{SessionState, state_after};
 ghost use Rattle.histories.specs.TraceEvents.{TraceEvent};
 ghost use Rattle.session_boots.specs.Stages.{AsTold};
-ghost use Rattle.session_boots.specs.Traces.{Acts};
+ghost use Rattle.session_boots.specs.Traces.{ActTrace};
 ghost use Rattle.session_shutdown.specs.Stops.{MayStop};
 ghost use Rattle.session_steady.specs.Serves.{IsAsking, IsServing};
 ghost use Rattle.session.specs.Calls.{IsOrEdge, SaysLine};
@@ -34,7 +34,7 @@ use step_runner::Runner;
 pub(crate) fn say_inbox<K: Sink>(sink: &mut K) -> Status
     ensures line { AppendsPrefix (K.held sink.old) (K.held sink.new) inbox_line }
     // All of it, unless the sink fails.
-    ensures told { ¬ (Rose (K.faults sink.old) (K.faults sink.new)) → Appends (K.held sink.old) (K.held sink.new) inbox_line }
+    ensures whole { ¬ (Rose (K.faults sink.old) (K.faults sink.new)) → Appends (K.held sink.old) (K.held sink.new) inbox_line }
     ensures status { result ≡ statuses.Edge }
     ensures later { K.faults sink.old ≤ K.faults sink.new }
 {
@@ -62,9 +62,9 @@ pub(crate) fn say_ended<K: Sink>(turns: u32, sink: &mut K) -> Status
 
 /// Kills all children that live, from where no component may act or a document was just handled: the call gives up.
 pub(crate) fn give_up<R: Runner, S: Supervise>(runner: &mut R, supervisor: &S)
-    requires placed { (p : SessionState) × (d : Device) × AsTold R.Runner runner.old (IsReturned p d (S.world supervisor.now)) }
+    requires from_state { (p : SessionState) × (d : Device) × AsTold R.Runner runner.old (IsReturned p d (S.world supervisor.now)) }
     ensures trace { (p : SessionState) → (d : Device) → AsTold R.Runner runner.old (IsReturned p d (S.world supervisor.now)) →
-        (h : List TraceEvent) × Acts p h (R.list runner.old) (R.list runner.new) ×
+        (h : List TraceEvent) × ActTrace p h (R.list runner.old) (R.list runner.new) ×
         ((status : StatusOf) → (rose : Bool) → gives_up status ≡ true → IsEnd (state_after p h) status rose) }
     ensures none { R.living runner.new ≡ [] }
 {
@@ -78,9 +78,9 @@ pub(crate) fn give_up_asking<K: Sink, R: Runner, S: Supervise>(
     runner: &mut R,
     supervisor: &S,
 ) -> Status
-    requires placed { (p : SessionState) × (d : Device) × AsTold R.Runner runner.old (IsAsking p d (S.world supervisor.now)) }
+    requires from_state { (p : SessionState) × (d : Device) × AsTold R.Runner runner.old (IsAsking p d (S.world supervisor.now)) }
     ensures trace { (p : SessionState) → (d : Device) → AsTold R.Runner runner.old (IsAsking p d (S.world supervisor.now)) →
-        (h : List TraceEvent) × Acts p h (R.list runner.old) (R.list runner.new) × IsEnd (state_after p h) result false }
+        (h : List TraceEvent) × ActTrace p h (R.list runner.old) (R.list runner.new) × IsEnd (state_after p h) result false }
     ensures none { R.living runner.new ≡ [] }
     ensures status { GivesUpBy fault result }
     ensures line { AppendsPrefix (K.held sink.old) (K.held sink.new) (line_of_fault fault) }
@@ -97,9 +97,9 @@ pub(crate) fn give_up_asking<K: Sink, R: Runner, S: Supervise>(
 
 /// The clock stands at its end: kills all children.
 pub(crate) fn give_up_at_last<R: Runner, S: Supervise>(runner: &mut R, supervisor: &S)
-    requires placed { (p : SessionState) × (d : Device) × AsTold R.Runner runner.old (IsServing p d (S.world supervisor.now)) }
+    requires from_state { (p : SessionState) × (d : Device) × AsTold R.Runner runner.old (IsServing p d (S.world supervisor.now)) }
     ensures trace { (p : SessionState) → (d : Device) → AsTold R.Runner runner.old (IsServing p d (S.world supervisor.now)) →
-        (h : List TraceEvent) × Acts p h (R.list runner.old) (R.list runner.new) × IsEnd (state_after p h) statuses.Memory false }
+        (h : List TraceEvent) × ActTrace p h (R.list runner.old) (R.list runner.new) × IsEnd (state_after p h) statuses.Memory false }
     ensures none { R.living runner.new ≡ [] }
 {
     events_keep_order();
@@ -110,9 +110,9 @@ pub(crate) fn give_up_at_last<R: Runner, S: Supervise>(runner: &mut R, superviso
 /// Stops all components at the end of the call.
 pub(crate) fn stop_all<R: Runner, S: Supervise>(runner: &mut R, supervisor: &mut S)
     requires up { (d : Device) × AreUp d (S.world supervisor.old) }
-    requires placed { (p : SessionState) × (d : Device) × AsTold R.Runner runner.old (MayStop p d (S.world supervisor.old)) }
+    requires from_state { (p : SessionState) × (d : Device) × AsTold R.Runner runner.old (MayStop p d (S.world supervisor.old)) }
     ensures trace { (p : SessionState) → (d : Device) → AsTold R.Runner runner.old (MayStop p d (S.world supervisor.old)) →
-        (h : List TraceEvent) × Acts p h (R.list runner.old) (R.list runner.new) ×
+        (h : List TraceEvent) × ActTrace p h (R.list runner.old) (R.list runner.new) ×
         ((status : StatusOf) → is_restart status ≡ false → IsEnd (state_after p h) status false) }
     ensures none { R.living runner.new ≡ [] }
 {
@@ -123,12 +123,12 @@ pub(crate) fn stop_all<R: Runner, S: Supervise>(runner: &mut R, supervisor: &mut
 /// stopped. Tells whether they were: at the end of the clock all children are killed.
 pub(crate) fn stop_spent<R: Runner, S: Supervise>(runner: &mut R, supervisor: &mut S) -> bool
     requires up { (d : Device) × AreUp d (S.world supervisor.old) }
-    requires placed { (p : SessionState) × (d : Device) × AsTold R.Runner runner.old (IsServing p d (S.world supervisor.old)) × (p.turns ≡ 0) }
+    requires from_state { (p : SessionState) × (d : Device) × AsTold R.Runner runner.old (IsServing p d (S.world supervisor.old)) × (p.turns ≡ 0) }
     ensures stopped { result ≡ true → (p : SessionState) → (d : Device) → AsTold R.Runner runner.old (IsServing p d (S.world supervisor.old)) → p.turns ≡ 0 →
-        (h : List TraceEvent) × Acts p h (R.list runner.old) (R.list runner.new) ×
+        (h : List TraceEvent) × ActTrace p h (R.list runner.old) (R.list runner.new) ×
         ((status : StatusOf) → is_restart status ≡ false → IsEnd (state_after p h) status false) }
     ensures killed { result ≡ false → (p : SessionState) → (d : Device) → AsTold R.Runner runner.old (IsServing p d (S.world supervisor.old)) →
-        (h : List TraceEvent) × Acts p h (R.list runner.old) (R.list runner.new) × IsEnd (state_after p h) statuses.Memory false }
+        (h : List TraceEvent) × ActTrace p h (R.list runner.old) (R.list runner.new) × IsEnd (state_after p h) statuses.Memory false }
     ensures none { R.living runner.new ≡ [] }
 {
     match settle(runner, supervisor) {

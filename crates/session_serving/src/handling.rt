@@ -6,10 +6,10 @@ ghost use Rattle.histories.specs.Courses.{is_restart};
 ghost use Rattle.histories.specs.States.{SessionState};
 ghost use Rattle.histories.specs.TraceEvents.{TraceEvent, document as a_document};
 ghost use Rattle.step_runner.specs.Entries.{Listed};
-ghost use Rattle.deploy_state.specs.Objects.{Holds};
+ghost use Rattle.deploy_state.specs.Objects.{OwnsOver};
 ghost use Rattle.session_boots.specs.Stages.{AsTold};
 ghost use Rattle.session.specs.Parts.{IsOver, OwnsRan, status_of_ran};
-ghost use Rattle.session_serving.specs.Causes.{IsCaused, watched};
+ghost use Rattle.session_serving.specs.Causes.{IsCaused, observation};
 ghost use Rattle.session_serving.specs.Documents.{IsDeployedThere};
 ghost use Rattle.session_serving.specs.Parts.{AreOfFiles, outside};
 ghost use Rattle.session_serving.specs.Places.{AreUp, IsAsked};
@@ -44,24 +44,24 @@ fn deploy_given<D: Disk, J: Journal + Drop, L: Library, I: Inbox, K: Sink, R: Ru
 ) -> Ran<J>
 where
     S::Ready: Drop,
-    requires held { Holds D.Disk J.Journal OwnsIdle idle disk.old }
+    requires held { OwnsOver D.Disk J.Journal OwnsIdle idle disk.old }
     requires apart { LieElsewhere J.files }
     requires own { AreOfFiles J.files J.entries }
     requires up { AreUp (idle_device idle) (S.world supervisor.old) }
-    requires placed { (p : SessionState) × AsTold R.Runner runner.old (IsAsked a_document p (idle_device idle) (S.world supervisor.old)) }
+    requires from_state { (p : SessionState) × AsTold R.Runner runner.old (IsAsked a_document p (idle_device idle) (S.world supervisor.old)) }
     ensures left { (p : SessionState) → AsTold R.Runner runner.old (IsAsked a_document p (idle_device idle) (S.world supervisor.old)) →
         (h : List TraceEvent) × DocumentLeft D.Disk J.Journal (IsDeployedThere (L.content library.old)) document.now result
         (outside D.Disk K.Sink R.Runner L.Library I.Inbox disk.old sink.old runner.old library.old inbox.now)
         (outside D.Disk K.Sink R.Runner L.Library I.Inbox disk.new sink.new runner.new library.new inbox.now)
         p h (S.world supervisor.new) (Listed R.list R.told R.asked runner.new) (R.living runner.new) }
-    ensures held { Holds D.Disk J.Journal OwnsRan result disk.new }
+    ensures held { OwnsOver D.Disk J.Journal OwnsRan result disk.new }
     ensures up { UpRan result (S.world supervisor.new) }
     ensures none { IsOver result → R.living runner.new ≡ [] }
     ensures kept { L.content library.new ≡ L.content library.old }
     ensures stays { StaysRan result }
     ensures caused { IsCaused D.is_modelled J.files (status_of_ran result)
-        (watched D.Disk K.Sink L.Library I.Inbox disk.old sink.old library.old inbox.now)
-        (watched D.Disk K.Sink L.Library I.Inbox disk.new sink.new library.new inbox.now) }
+        (observation D.Disk K.Sink L.Library I.Inbox disk.old sink.old library.old inbox.now)
+        (observation D.Disk K.Sink L.Library I.Inbox disk.new sink.new library.new inbox.now) }
 {
     components_run_their_items();
     deployments_serve_alike();
@@ -100,24 +100,24 @@ pub(crate) fn handle<
 ) -> Turned<J>
 where
     S::Ready: Drop,
-    requires held { Holds D.Disk J.Journal OwnsIdle idle disk.old }
+    requires held { OwnsOver D.Disk J.Journal OwnsIdle idle disk.old }
     requires apart { LieElsewhere J.files }
     requires own { AreOfFiles J.files J.entries }
     requires given { IsTrue (I.answered inbox.old).is_given }
     requires up { AreUp (idle_device idle) (S.world supervisor.old) }
-    requires placed { (p : SessionState) × AsTold R.Runner runner.old (IsAsked a_document p (idle_device idle) (S.world supervisor.old)) }
+    requires from_state { (p : SessionState) × AsTold R.Runner runner.old (IsAsked a_document p (idle_device idle) (S.world supervisor.old)) }
     ensures left { (p : SessionState) → AsTold R.Runner runner.old (IsAsked a_document p (idle_device idle) (S.world supervisor.old)) →
         (h : List TraceEvent) × HandleLeft D.Disk J.Journal (IsDeployedThere (L.content library.old)) document.now result
         (outside D.Disk K.Sink R.Runner L.Library I.Inbox disk.old sink.old runner.old library.old inbox.old)
         (outside D.Disk K.Sink R.Runner L.Library I.Inbox disk.new sink.new runner.new library.new inbox.new)
         p h (S.world supervisor.new) (Listed R.list R.told R.asked runner.new) (R.living runner.new) }
-    ensures held { Holds D.Disk J.Journal OwnsTurned result disk.new }
+    ensures held { OwnsOver D.Disk J.Journal OwnsTurned result disk.new }
     ensures up { UpTurned result (S.world supervisor.new) }
     ensures none { HasEnded result → R.living runner.new ≡ [] }
     ensures kept { L.content library.new ≡ L.content library.old }
     ensures caused { IsCaused D.is_modelled J.files (status_of_turned result)
-        (watched D.Disk K.Sink L.Library I.Inbox disk.old sink.old library.old inbox.old)
-        (watched D.Disk K.Sink L.Library I.Inbox disk.new sink.new library.new inbox.new) }
+        (observation D.Disk K.Sink L.Library I.Inbox disk.old sink.old library.old inbox.old)
+        (observation D.Disk K.Sink L.Library I.Inbox disk.new sink.new library.new inbox.new) }
 {
     match deploy_given(
         alloc, idle, document, disk, library, inbox, sink, runner, supervisor,

@@ -11,7 +11,7 @@ ghost use Rattle.components.specs.Answers.{standing_count};
 ghost use Rattle.components.specs.Made.{AreFitted};
 ghost use Rattle.histories.specs.States.{SessionState, state_after};
 ghost use Rattle.histories.specs.TraceEvents.{TraceEvent};
-ghost use Rattle.session_boots.specs.Traces.{Acts};
+ghost use Rattle.session_boots.specs.Traces.{ActTrace};
 ghost use Rattle.session_steady.specs.Serves.{IsServing};
 ghost use Rattle.session_serving.specs.Places.{AreUp, IsUnopened};
 
@@ -59,10 +59,10 @@ where
     requires origin { IsSome (idle_device idle.now).origin }
     requires pending { (idle_device idle.now).pending ≡ None }
     requires up { AreUp (idle_device idle.now) (S.world supervisor.old) }
-    requires placed { (p : SessionState) × (told : Told) × (living : ListOf ℕ) × IsUnopened p (idle_device idle.now) (S.world supervisor.old) told living }
+    requires from_state { (p : SessionState) × (told : Told) × (living : ListOf ℕ) × IsUnopened p (idle_device idle.now) (S.world supervisor.old) told living }
     ensures trace { OnOk result ((p : SessionState) → (told : Told) → (living : ListOf ℕ) →
         IsUnopened p (idle_device idle.now) (S.world supervisor.old) told living →
-        (h : ListOf TraceEvent) × Acts p h told.list told.list × IsServing (state_after p h) (idle_device idle.now) (S.world supervisor.new) told living
+        (h : ListOf TraceEvent) × ActTrace p h told.list told.list × IsServing (state_after p h) (idle_device idle.now) (S.world supervisor.new) told living
         × ((state_after p h).turns ≡ p.turns)) }
     ensures up { OnOk result (AreUp (idle_device idle.now) (S.world supervisor.new)) }
     ensures same { OnErr result (S.world supervisor.new ≡ S.world supervisor.old) }

@@ -5,10 +5,10 @@ ghost use Rattle.admission.specs.Takes.{LieElsewhere};
 ghost use Rattle.histories.specs.States.{SessionState};
 ghost use Rattle.histories.specs.TraceEvents.{TraceEvent};
 ghost use Rattle.step_runner.specs.Entries.{Listed};
-ghost use Rattle.deploy_state.specs.Objects.{Holds};
+ghost use Rattle.deploy_state.specs.Objects.{OwnsOver};
 ghost use Rattle.session_boots.specs.Stages.{AsTold};
 ghost use Rattle.session.specs.Parts.{IsOver, OwnsRan, status_of_ran};
-ghost use Rattle.session_serving.specs.Causes.{IsCaused, watched};
+ghost use Rattle.session_serving.specs.Causes.{IsCaused, observation};
 ghost use Rattle.session_serving.specs.Parts.{AreOfFiles, outside};
 ghost use Rattle.session_serving.specs.Places.{IsBegun};
 ghost use Rattle.session_serving.specs.Served.{FinishLeft};
@@ -48,23 +48,23 @@ pub(crate) fn finish_pending<
 ) -> Ran<J>
 where
     S::Ready: Drop,
-    requires held { Holds D.Disk J.Journal OwnsLoaded state disk.old }
+    requires held { OwnsOver D.Disk J.Journal OwnsLoaded state disk.old }
     requires apart { LieElsewhere J.files }
     requires own { AreOfFiles J.files J.entries }
     requires empty { (S.world supervisor.old).parts ≡ [] }
-    requires placed { (p : SessionState) × (turns : ℕ) × AsTold R.Runner runner.old (IsBegun p turns (loaded_device state) (S.world supervisor.old)) }
+    requires from_state { (p : SessionState) × (turns : ℕ) × AsTold R.Runner runner.old (IsBegun p turns (loaded_device state) (S.world supervisor.old)) }
     ensures left { (p : SessionState) → (turns : ℕ) → AsTold R.Runner runner.old (IsBegun p turns (loaded_device state) (S.world supervisor.old)) →
         (h : List TraceEvent) × FinishLeft D.Disk J.Journal result
         (outside D.Disk K.Sink R.Runner L.Library I.Inbox disk.old sink.old runner.old library.now inbox.now)
         (outside D.Disk K.Sink R.Runner L.Library I.Inbox disk.new sink.new runner.new library.now inbox.now)
         p h (S.world supervisor.new) (Listed R.list R.told R.asked runner.new) (R.living runner.new) }
-    ensures held { Holds D.Disk J.Journal OwnsRan result disk.new }
+    ensures held { OwnsOver D.Disk J.Journal OwnsRan result disk.new }
     ensures up { UpRan result (S.world supervisor.new) }
     ensures none { IsOver result → R.living runner.new ≡ [] }
     ensures stays { StaysRan result }
     ensures caused { IsCaused D.is_modelled J.files (status_of_ran result)
-        (watched D.Disk K.Sink L.Library I.Inbox disk.old sink.old library.now inbox.now)
-        (watched D.Disk K.Sink L.Library I.Inbox disk.new sink.new library.now inbox.now) }
+        (observation D.Disk K.Sink L.Library I.Inbox disk.old sink.old library.now inbox.now)
+        (observation D.Disk K.Sink L.Library I.Inbox disk.new sink.new library.now inbox.now) }
 {
     components_run_their_items();
     deployments_serve_alike();

@@ -5,9 +5,9 @@ ghost use Rattle.deploy_state.specs.States.{OwnsIdle, idle_device};
 ghost use Rattle.histories.specs.States.{SessionState, state_after};
 ghost use Rattle.histories.specs.TraceEvents.{TraceEvent};
 ghost use Rattle.step_runner.specs.Entries.{Listed};
-ghost use Rattle.deploy_state.specs.Objects.{Holds};
+ghost use Rattle.deploy_state.specs.Objects.{OwnsOver};
 ghost use Rattle.session_boots.specs.Stages.{AsTold};
-ghost use Rattle.session_boots.specs.Traces.{Acts};
+ghost use Rattle.session_boots.specs.Traces.{ActTrace};
 ghost use Rattle.session_serving.specs.Places.{AreUp};
 ghost use Rattle.session_serving.specs.Turns.{HasEnded, IsReady, OwnsTurned, StandsAgain, UpTurned};
 
@@ -35,13 +35,13 @@ pub(crate) fn stand_again<D: Disk, J: Journal + Drop, R: Runner, S: Supervise>(
 ) -> Turned<J>
 where
     S::Ready: Drop,
-    requires held { Holds D.Disk J.Journal OwnsIdle idle disk.now }
+    requires held { OwnsOver D.Disk J.Journal OwnsIdle idle disk.now }
     requires up { AreUp (idle_device idle) (S.world supervisor.old) }
-    requires placed { (p : SessionState) × AsTold R.Runner runner.old (IsReady standing p (idle_device idle) (S.world supervisor.old)) }
+    requires from_state { (p : SessionState) × AsTold R.Runner runner.old (IsReady standing p (idle_device idle) (S.world supervisor.old)) }
     ensures trace { (p : SessionState) → AsTold R.Runner runner.old (IsReady standing p (idle_device idle) (S.world supervisor.old)) →
-        (h : List TraceEvent) × Acts p h (R.list runner.old) (R.list runner.new) × StandsAgain result p (state_after p h) (idle_device idle)
+        (h : List TraceEvent) × ActTrace p h (R.list runner.old) (R.list runner.new) × StandsAgain result p (state_after p h) (idle_device idle)
         (S.world supervisor.new) (Listed R.list R.told R.asked runner.new) (R.living runner.new) }
-    ensures held { Holds D.Disk J.Journal OwnsTurned result disk.now }
+    ensures held { OwnsOver D.Disk J.Journal OwnsTurned result disk.now }
     ensures up { UpTurned result (S.world supervisor.new) }
     ensures none { HasEnded result → R.living runner.new ≡ [] }
     ensures exact { (result ≡ Turned.On idle) ⊎ (result ≡ Turned.Over statuses.Memory) }

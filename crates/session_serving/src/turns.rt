@@ -5,10 +5,10 @@ ghost use Rattle.admission.specs.Takes.{LieElsewhere};
 ghost use Rattle.histories.specs.States.{SessionState};
 ghost use Rattle.histories.specs.TraceEvents.{TraceEvent};
 ghost use Rattle.step_runner.specs.Entries.{Listed};
-ghost use Rattle.deploy_state.specs.Objects.{Holds};
+ghost use Rattle.deploy_state.specs.Objects.{OwnsOver};
 ghost use Rattle.session_boots.specs.Stages.{AsTold};
 ghost use Rattle.session_steady.specs.Serves.{IsAsking, IsServing};
-ghost use Rattle.session_serving.specs.Causes.{IsCaused, watched};
+ghost use Rattle.session_serving.specs.Causes.{IsCaused, observation};
 ghost use Rattle.session_serving.specs.Documents.{IsDeployedThere};
 ghost use Rattle.session_serving.specs.Parts.{AreOfFiles, outside};
 ghost use Rattle.session_serving.specs.Places.{AreUp};
@@ -42,24 +42,24 @@ fn ask<D: Disk, J: Journal + Drop, L: Library, I: Inbox, K: Sink, R: Runner, S: 
 ) -> Turned<J>
 where
     S::Ready: Drop,
-    requires held { Holds D.Disk J.Journal OwnsIdle idle disk.old }
+    requires held { OwnsOver D.Disk J.Journal OwnsIdle idle disk.old }
     requires apart { LieElsewhere J.files }
     requires own { AreOfFiles J.files J.entries }
     requires now { (R.told runner.old ≡ now) × (now + 1 < 2 ^ 62) }
     requires up { AreUp (idle_device idle) (S.world supervisor.old) }
-    requires placed { (p : SessionState) × AsTold R.Runner runner.old (IsAsking p (idle_device idle) (S.world supervisor.old)) × (1 ≤ p.turns) }
+    requires from_state { (p : SessionState) × AsTold R.Runner runner.old (IsAsking p (idle_device idle) (S.world supervisor.old)) × (1 ≤ p.turns) }
     ensures left { (p : SessionState) → AsTold R.Runner runner.old (IsAsking p (idle_device idle) (S.world supervisor.old)) → 1 ≤ p.turns →
         (h : List TraceEvent) × TurnLeft D.Disk J.Journal (IsDeployedThere (L.content library.old)) result
         (outside D.Disk K.Sink R.Runner L.Library I.Inbox disk.old sink.old runner.old library.old inbox.old)
         (outside D.Disk K.Sink R.Runner L.Library I.Inbox disk.new sink.new runner.new library.new inbox.new)
         p h (S.world supervisor.new) (Listed R.list R.told R.asked runner.new) (R.living runner.new) }
-    ensures held { Holds D.Disk J.Journal OwnsTurned result disk.new }
+    ensures held { OwnsOver D.Disk J.Journal OwnsTurned result disk.new }
     ensures up { UpTurned result (S.world supervisor.new) }
     ensures none { HasEnded result → R.living runner.new ≡ [] }
     ensures kept { L.content library.new ≡ L.content library.old }
     ensures caused { IsCaused D.is_modelled J.files (status_of_turned result)
-        (watched D.Disk K.Sink L.Library I.Inbox disk.old sink.old library.old inbox.old)
-        (watched D.Disk K.Sink L.Library I.Inbox disk.new sink.new library.new inbox.new) }
+        (observation D.Disk K.Sink L.Library I.Inbox disk.old sink.old library.old inbox.old)
+        (observation D.Disk K.Sink L.Library I.Inbox disk.new sink.new library.new inbox.new) }
 {
     match inbox.next(alloc) {
         Ok(incoming) => match incoming {
@@ -104,23 +104,23 @@ fn turn<D: Disk, J: Journal + Drop, L: Library, I: Inbox, K: Sink, R: Runner, S:
 ) -> Turned<J>
 where
     S::Ready: Drop,
-    requires held { Holds D.Disk J.Journal OwnsIdle idle disk.old }
+    requires held { OwnsOver D.Disk J.Journal OwnsIdle idle disk.old }
     requires apart { LieElsewhere J.files }
     requires own { AreOfFiles J.files J.entries }
     requires up { AreUp (idle_device idle) (S.world supervisor.old) }
-    requires placed { (p : SessionState) × AsTold R.Runner runner.old (IsServing p (idle_device idle) (S.world supervisor.old)) × (1 ≤ p.turns) }
+    requires from_state { (p : SessionState) × AsTold R.Runner runner.old (IsServing p (idle_device idle) (S.world supervisor.old)) × (1 ≤ p.turns) }
     ensures left { (p : SessionState) → AsTold R.Runner runner.old (IsServing p (idle_device idle) (S.world supervisor.old)) → 1 ≤ p.turns →
         (h : List TraceEvent) × TurnLeft D.Disk J.Journal (IsDeployedThere (L.content library.old)) result
         (outside D.Disk K.Sink R.Runner L.Library I.Inbox disk.old sink.old runner.old library.old inbox.old)
         (outside D.Disk K.Sink R.Runner L.Library I.Inbox disk.new sink.new runner.new library.new inbox.new)
         p h (S.world supervisor.new) (Listed R.list R.told R.asked runner.new) (R.living runner.new) }
-    ensures held { Holds D.Disk J.Journal OwnsTurned result disk.new }
+    ensures held { OwnsOver D.Disk J.Journal OwnsTurned result disk.new }
     ensures up { UpTurned result (S.world supervisor.new) }
     ensures none { HasEnded result → R.living runner.new ≡ [] }
     ensures kept { L.content library.new ≡ L.content library.old }
     ensures caused { IsCaused D.is_modelled J.files (status_of_turned result)
-        (watched D.Disk K.Sink L.Library I.Inbox disk.old sink.old library.old inbox.old)
-        (watched D.Disk K.Sink L.Library I.Inbox disk.new sink.new library.new inbox.new) }
+        (observation D.Disk K.Sink L.Library I.Inbox disk.old sink.old library.old inbox.old)
+        (observation D.Disk K.Sink L.Library I.Inbox disk.new sink.new library.new inbox.new) }
 {
     match settle(runner, supervisor) {
         Some(now) => ask(
@@ -156,23 +156,23 @@ pub(crate) fn take_turns<
 ) -> Turned<J>
 where
     S::Ready: Drop,
-    requires held { Holds D.Disk J.Journal OwnsIdle idle disk.old }
+    requires held { OwnsOver D.Disk J.Journal OwnsIdle idle disk.old }
     requires apart { LieElsewhere J.files }
     requires own { AreOfFiles J.files J.entries }
     requires up { AreUp (idle_device idle) (S.world supervisor.old) }
-    requires placed { (p : SessionState) × AsTold R.Runner runner.old (IsServing p (idle_device idle) (S.world supervisor.old)) × (p.turns ≡ turns) }
+    requires from_state { (p : SessionState) × AsTold R.Runner runner.old (IsServing p (idle_device idle) (S.world supervisor.old)) × (p.turns ≡ turns) }
     ensures left { (p : SessionState) → AsTold R.Runner runner.old (IsServing p (idle_device idle) (S.world supervisor.old)) → p.turns ≡ turns →
         (h : List TraceEvent) × TurnsLeft D.Disk J.Journal (IsDeployedThere (L.content library.old)) result turns
         (outside D.Disk K.Sink R.Runner L.Library I.Inbox disk.old sink.old runner.old library.old inbox.old)
         (outside D.Disk K.Sink R.Runner L.Library I.Inbox disk.new sink.new runner.new library.new inbox.new)
         p h (S.world supervisor.new) (Listed R.list R.told R.asked runner.new) (R.living runner.new) }
-    ensures held { Holds D.Disk J.Journal OwnsTurned result disk.new }
+    ensures held { OwnsOver D.Disk J.Journal OwnsTurned result disk.new }
     ensures up { UpTurned result (S.world supervisor.new) }
     ensures none { HasEnded result → R.living runner.new ≡ [] }
     ensures kept { L.content library.new ≡ L.content library.old }
     ensures caused { IsCaused D.is_modelled J.files (status_of_turned result)
-        (watched D.Disk K.Sink L.Library I.Inbox disk.old sink.old library.old inbox.old)
-        (watched D.Disk K.Sink L.Library I.Inbox disk.new sink.new library.new inbox.new) }
+        (observation D.Disk K.Sink L.Library I.Inbox disk.old sink.old library.old inbox.old)
+        (observation D.Disk K.Sink L.Library I.Inbox disk.new sink.new library.new inbox.new) }
 {
     let mut idle = idle;
     'turns: for _turn in 0..turns {

@@ -1,4 +1,4 @@
--- All are to be stopped: the place behind it.
+-- All are to be stopped: the state behind it.
 use Rattle.std.specs.Prelude.{ℕ, List, [], ◌∷◌, Option, IsSome, if◌then◌else◌}
 use Rattle.std.proofs.Common.{◌≡◌, ◌↔◌, ◌⊎◌, refl, sym, ap, subst}
 use Rattle.nuc_base.specs.declared.kinds.Step.{Step}
@@ -12,12 +12,12 @@ use Rattle.histories.specs.Phases.{shutting_down}
 use Rattle.histories.specs.TraceEvents.{StopsAll}
 use Rattle.histories.specs.States.{SessionState, leaves}
 use Rattle.histories.specs.Follows.{MayStopAll, IsBootChild}
-use Rattle.session_boots.specs.Traces.{Acts}
+use Rattle.session_boots.specs.Traces.{ActTrace}
 use Rattle.session_boots.proofs.Acting.{grows_none}
-use Rattle.law_supervisor.specs.Keeps.{IsTold}
+use Rattle.law_supervisor.specs.Keeps.{HasNoneOwed}
 use Rattle.law_supervisor.specs.Sound.{IsOrderly}
 use Rattle.session_acts.proofs.Entering.{never}
-use Rattle.session_shutdown.specs.Leaves.{Leaves}
+use Rattle.session_shutdown.specs.Leaves.{AreLeaving}
 use Rattle.session_shutdown.specs.Runs.{IsAtTurnStart, IsGoing}
 use Rattle.session_shutdown.specs.Stops.{MayStop}
 use Rattle.law_supervisor.proofs.Stopped.{stopped_owner}
@@ -40,7 +40,7 @@ through : {A B C : Type 0} → A ↔ B → B ↔ C → A ↔ C
 through e f = ((λ h. f.0 (e.0 h)), (λ h. e.1 (f.1 h)))
 
 pub stop_acts : (p : SessionState) (d : Device) (world : Components) (told : Told) (living : List ℕ) (list : Option (List RunnerEntry)) →
-    MayStop p d world told living → Acts p (StopsAll ∷ []) list list
+    MayStop p d world told living → ActTrace p (StopsAll ∷ []) list list
 stop_acts p d world told living list m = record {
   proper = ((m.may, (λ cut. absurd (never p.cut m.cut cut)), m.over), tt);
   none = refl;
@@ -48,7 +48,8 @@ stop_acts p d world told living list m = record {
   device = refl;
 }
 
-pub stop_comes : ((w : Components) → IsOrderly w → IsTold w → Leaves (all_stopped w)) → (p : SessionState) (d : Device) (world : Components) (told : Told)
+pub stop_comes : ((w : Components) → IsOrderly w → HasNoneOwed w → AreLeaving (all_stopped w)) →
+    (p : SessionState) (d : Device) (world : Components) (told : Told)
     (living : List ℕ) → MayStop p d world told living → IsAtTurnStart (leaves p StopsAll) d (all_stopped world) told living
 stop_comes law p d world told living m =
     let s = m.stands in

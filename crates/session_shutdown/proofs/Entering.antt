@@ -18,14 +18,14 @@ use Rattle.histories.specs.TraceEvents.{TraceEvent, Ran}
 use Rattle.histories.specs.States.{SessionState, leaves, state_after, ran}
 use Rattle.histories.specs.Waits.{may_drive}
 use Rattle.histories.specs.Follows.{MayRun}
-use Rattle.session_boots.specs.Traces.{Acts}
+use Rattle.session_boots.specs.Traces.{ActTrace}
 use Rattle.law_supervisor.proofs.Lists.{at_places, no_some}
 use Rattle.session_acts.specs.Runs as turn
 use Rattle.session_acts.specs.Traces.{ActsInTurn, IsActEntry}
 use Rattle.session_acts.proofs.Entering.{comes_of as turn_comes}
 use Rattle.session_acts.proofs.Keeping.{IsKept, kept_along}
 use Rattle.session_shutdown.specs.Laws.{Laws}
-use Rattle.session_shutdown.specs.Leaves.{Leaves, LeavesPart}
+use Rattle.session_shutdown.specs.Leaves.{AreLeaving, IsLeavingPart}
 use Rattle.session_shutdown.specs.Runs.{IsAtTurnStart, IsGoing, IsOn, IsWithin, IsInTurn}
 
 -- ---- a turn of the stage is one
@@ -65,13 +65,13 @@ turn_of r = record { within = within_of r.within; probed = r.probed; world_is = 
 
 pub record InStage (p : SessionState) : Type 0 where
   pub on : IsOn p
-  pub keeps : Leaves p.world
+  pub keeps : AreLeaving p.world
 
 pub on_ran : (p : SessionState) (e : RunnerEntry) (k : ℕ) (t : Step) → IsOn p → IsOn (leaves p (Ran e k t))
 on_ran p e k t on = record { going = on.going; boot = on.boot; boot_end = on.boot_end; over = on.over; cut = on.cut }
 
-ran_leaves : Laws → (p : SessionState) (s : Seen) (k : ℕ) (t : Step) → MayRun (duty_of p.device) p s k t → IsActEntry p s → Leaves p.world →
-    Leaves (ran s k t p.world)
+ran_leaves : Laws → (p : SessionState) (s : Seen) (k : ℕ) (t : Step) → MayRun (duty_of p.device) p s k t → IsActEntry p s → AreLeaving p.world →
+    AreLeaving (ran s k t p.world)
 ran_leaves laws p (seen.Started n c) k t may is keeps = laws.keeps_started k t n p.world is keeps
 ran_leaves laws p (seen.Refused c) k t may is keeps = laws.keeps_refused k t p.world keeps
 ran_leaves laws p (seen.Killed n) k t may is keeps = laws.keeps_killed n p.world keeps
@@ -96,13 +96,13 @@ stage_kept laws = record {
 }
 
 -- who leaves owes none
-no_debt : (k : ℕ) (s : Step) (e : Exit) (b : Bool) (w : Components) → Leaves w → OwesAt w k s e b → ⊥
+no_debt : (k : ℕ) (s : Step) (e : Exit) (b : Bool) (w : Components) → AreLeaving w → OwesAt w k s e b → ⊥
 no_debt k s e b w l o = by (slice_get w.parts k) refl o
   where
     by : (x : Option ComponentState) → slice_get w.parts k ≡ x → IsSomeAnd x (λ p. (p.owed ≡ Some (s, e)) × (is_broken p.life.state ≡ b) ×
         (place_of (component_name p) w.parts ≡ Some k)) → ⊥
     by None is h = absurd h
-    by (Some p) is h = no_some (s, e) (sym (at_places LeavesPart w.parts l.each k p is).1 ∙ h.0)
+    by (Some p) is h = no_some (s, e) (sym (at_places IsLeavingPart w.parts l.each k p is).1 ∙ h.0)
 
 turn_in : {q : SessionState} {world : Components} {told : Told} {living : List ℕ} → InStage q → turn.IsInTurn q world told living →
     IsInTurn q world told living
@@ -120,20 +120,20 @@ turn_in s r = record {
   world_is = r.world_is;
 }
 
-module _ (laws : Laws) (p : SessionState) (on : IsOn p) (keeps : Leaves p.world) {old new : Option (List RunnerEntry)} where
+module _ (laws : Laws) (p : SessionState) (on : IsOn p) (keeps : AreLeaving p.world) {old new : Option (List RunnerEntry)} where
   stage_after : (h : List TraceEvent) → ActsInTurn p h old new → InStage (state_after p h)
   stage_after h a = kept_along InStage (stage_kept laws) p h a.acts.proper a.each (record { on = on; keeps = keeps })
 
   -- what a part of a turn leaves it leaves in the stage
   pub turn_left : {world : Components} {told : Told} {living : List ℕ} →
       ((h : List TraceEvent) × ActsInTurn p h old new × turn.IsInTurn (state_after p h) world told living) →
-      (h : List TraceEvent) × Acts p h old new × IsInTurn (state_after p h) world told living
+      (h : List TraceEvent) × ActTrace p h old new × IsInTurn (state_after p h) world told living
   turn_left x = (x.0, x.1.acts, turn_in (stage_after x.0 x.1) x.2)
 
   -- so it is where no act is left
   pub quiet_left : {world : Components} {told : Told} {living : List ℕ} →
       ((h : List TraceEvent) × ActsInTurn p h old new × (turn.IsInTurn (state_after p h) world told living × IsQuiet (state_after p h).world)) →
-      (h : List TraceEvent) × Acts p h old new × (IsInTurn (state_after p h) world told living × IsQuiet (state_after p h).world)
+      (h : List TraceEvent) × ActTrace p h old new × (IsInTurn (state_after p h) world told living × IsQuiet (state_after p h).world)
   quiet_left x = (x.0, x.1.acts, (turn_in (stage_after x.0 x.1) x.2.0, x.2.1))
 
   -- and none fails
@@ -141,9 +141,9 @@ module _ (laws : Laws) (p : SessionState) (on : IsOn p) (keeps : Leaves p.world)
       ((h : List TraceEvent) × ActsInTurn p h old new × turn.HasFailed (state_after p h) k s e world told living) → ⊥
   none_fails {k} {s} {e} x = no_debt k s e x.2.breaks (state_after p x.0).world (stage_after x.0 x.1).keeps x.2.owes
 
--- ---- a turn's front
+-- ---- a turn's start
 
--- back at a front
+-- back at a start
 pub comes_of : (p : SessionState) (d : Device) (world : Components) (told : Told) (living : List ℕ) → IsInTurn p world told living → p.device ≡ d →
     IsAtTurnStart p d world told living
 comes_of p d world told living r device = record {

@@ -13,7 +13,7 @@ use Rattle.components.specs.Fitted.{Fitted}
 use Rattle.components.specs.Components.{Components, ComponentState, Child, child_gone, without_child, owner, is_leaving, under_way}
 use Rattle.components.specs.Lives.{lived, lived_at}
 use Rattle.components.specs.Events.{answered_at, refused, skipped, started, gone_by, ended, killed, kill_event_at}
-use Rattle.components.specs.Acts.{Move, Quietly}
+use Rattle.components.specs.Acts.{Move, MovesInOrder}
 use Rattle.law_supervisor.specs.Sound.{IsSoundPart, may_ask}
 use Rattle.law_supervisor.proofs.Lists.{either, clash, none_of, not_so, changed_all}
 use Rattle.law_supervisor.proofs.Reached.{Marks, idle_of}
@@ -25,12 +25,12 @@ use Rattle.law_supervisor.proofs.Together.{BefallsAt, GoesBy, event_all, plain_a
 use Rattle.law_supervisor.proofs.Answered.{answered_orderly, refused_befalls, skipped_befalls}
 use Rattle.law_supervisor.proofs.Begun.{child, begun, started_by, started_orderly}
 use Rattle.law_supervisor.proofs.Gone.{ended_by, end_goes, killed_by, kill_goes}
-use Rattle.session_shutdown.specs.Leaves.{Leaves, LeavesPart}
+use Rattle.session_shutdown.specs.Leaves.{AreLeaving, IsLeavingPart}
 use Rattle.session_shutdown.proofs.KeptLeaving.{leaves_quietly, leaving_at}
 
 -- ---- of one
 
-quiet_parts : (p : ComponentState) → leaves_quietly p ≡ true → LeavesPart p
+quiet_parts : (p : ComponentState) → leaves_quietly p ≡ true → IsLeavingPart p
 quiet_parts p h =
     let x = and_parts (is_leaving p && not (is_some p.owed)) (not (is_some p.next)) h in
     let y = and_parts (is_leaving p) (not (is_some p.owed)) x.0 in
@@ -46,10 +46,10 @@ untold P p g o n x =
     (subst (λ (y : Option (Step × Exit)). P (bare false y p.next p)) (sym o)
     (subst (λ (y : Option (Fitted × ℕ)). P (bare false None y p)) (sym n) x))
 
-leaving_lived : (b : Bool) (e : LifeEvent) (p : ComponentState) (cs : List Child) (hd : Bool) → IsSoundPart p → LeavesPart p →
-    MayBefall e (with_these cs hd p) → LeavesPart (lived b e (with_these cs hd p))
+leaving_lived : (b : Bool) (e : LifeEvent) (p : ComponentState) (cs : List Child) (hd : Bool) → IsSoundPart p → IsLeavingPart p →
+    MayBefall e (with_these cs hd p) → IsLeavingPart (lived b e (with_these cs hd p))
 leaving_lived b e p cs hd k l m = elim (either p.life.gone) [
-  | inl g ↦ subst LeavesPart (sym (lived_gone b e (with_these cs hd p) g)) l
+  | inl g ↦ subst IsLeavingPart (sym (lived_gone b e (with_these cs hd p) g)) l
   | inr g ↦ quiet_parts (lived b e (with_these cs hd p))
       (untold (λ x. may_ask (under_way x.life) x.stop ≡ true → MayBefall e x → is_leaving x ≡ true → leaves_quietly (lived b e x) ≡ true) (with_these cs hd p)
       g l.1 l.2
@@ -57,7 +57,7 @@ leaving_lived b e p cs hd k l m = elim (either p.life.gone) [
 ]
 
 -- nobody who leaves is restarted
-mark_leaving : Marks LeavesPart
+mark_leaving : Marks IsLeavingPart
 mark_leaving p e l =
     let i = idle_of p e in
     let no : is_leaving p ≡ false = rw i.2 (rw i.0 (rw i.1 refl)) in
@@ -65,56 +65,56 @@ mark_leaving p e l =
 
 -- ---- what befalls one that keeps its children
 
-plain_keeps : (k : ℕ) (e : LifeEvent) (w : Components) → Leaves w → BefallsAt k e w → Leaves (lived_at k e w)
+plain_keeps : (k : ℕ) (e : LifeEvent) (w : Components) → AreLeaving w → BefallsAt k e w → AreLeaving (lived_at k e w)
 plain_keeps k e w i f = record {
   orderly = plain_orderly k e w i.orderly f;
-  each = plain_all LeavesPart mark_leaving k e w i.each (λ p q x.
+  each = plain_all IsLeavingPart mark_leaving k e w i.each (λ p q x.
       let s = i.orderly.sound k p q in leaving_lived w.steady e p p.children p.handed s x (f p q s).0);
 }
 
-pub moved_keeps : (w v : Components) (ms : List Move) → Quietly w ms v → Leaves w → Leaves v
-moved_keeps w v [] q i = subst Leaves (sym q) i
+pub moved_keeps : (w v : Components) (ms : List Move) → MovesInOrder w ms v → AreLeaving w → AreLeaving v
+moved_keeps w v [] q i = subst AreLeaving (sym q) i
 moved_keeps w v (m ∷ ms) q i = moved_keeps (lived_at m.who m.what w) v ms q.2 (plain_keeps m.who m.what w i (moves_befall w m.who m.what q.1))
 
 -- ---- a start that is answered
 
-answered_keeps : (k : ℕ) (w : Components) → Leaves w → Leaves (answered_at k w)
+answered_keeps : (k : ℕ) (w : Components) → AreLeaving w → AreLeaving (answered_at k w)
 answered_keeps k w i = record {
   orderly = answered_orderly k w i.orderly;
-  each = changed_all LeavesPart k (λ p. record p { handed = false }) w.parts i.each (λ p q x. x);
+  each = changed_all IsLeavingPart k (λ p. record p { handed = false }) w.parts i.each (λ p q x. x);
 }
 
-pub refused_keeps : (k : ℕ) (s : Step) (w : Components) → Leaves w → Leaves (refused k s w)
+pub refused_keeps : (k : ℕ) (s : Step) (w : Components) → AreLeaving w → AreLeaving (refused k s w)
 refused_keeps k s w i = plain_keeps k (event.Ended s exits.NotStarted) (answered_at k w) (answered_keeps k w i) (refused_befalls k s (answered_at k w))
 
-pub skipped_keeps : (k : ℕ) (w : Components) → Leaves w → Leaves (skipped k w)
+pub skipped_keeps : (k : ℕ) (w : Components) → AreLeaving w → AreLeaving (skipped k w)
 skipped_keeps k w i = plain_keeps k event.Skipped (answered_at k w) (answered_keeps k w i) (skipped_befalls k (answered_at k w))
 
 -- ---- a child that is started
 
-pub started_keeps : (k : ℕ) (s : Step) (n : ℕ) (w : Components) → owner n w.parts ≡ None → Leaves w → Leaves (started k s n w)
+pub started_keeps : (k : ℕ) (s : Step) (n : ℕ) (w : Components) → owner n w.parts ≡ None → AreLeaving w → AreLeaving (started k s n w)
 started_keeps k s n w o i = record {
   orderly = started_orderly k s n w o i.orderly;
-  each = started_by (λ t v. AllByRecursion LeavesPart v.parts) k s n w
-      (λ t r. changed_all LeavesPart k (begun n t w.moment) w.parts i.each (λ p q x. x))
-      (event_all LeavesPart mark_leaving k event.Launched (begun n step.Run w.moment) w i.each (λ p q x.
+  each = started_by (λ t v. AllByRecursion IsLeavingPart v.parts) k s n w
+      (λ t r. changed_all IsLeavingPart k (begun n t w.moment) w.parts i.each (λ p q x. x))
+      (event_all IsLeavingPart mark_leaving k event.Launched (begun n step.Run w.moment) w i.each (λ p q x.
       leaving_lived w.steady event.Launched p (child n step.Run w.moment p ∷ p.children) false (i.orderly.sound k p q) x tt));
 }
 
 -- ---- a child that is gone
 
-child_gone_keeps : (k n : ℕ) (w : Components) → Leaves w → Leaves (child_gone k n w)
+child_gone_keeps : (k n : ℕ) (w : Components) → AreLeaving w → AreLeaving (child_gone k n w)
 child_gone_keeps k n w i = record {
   orderly = child_gone_orderly k n w i.orderly;
-  each = changed_all LeavesPart k (without_child n) w.parts i.each (λ p q x. x);
+  each = changed_all IsLeavingPart k (without_child n) w.parts i.each (λ p q x. x);
 }
 
-gone_by_keeps : (o : Option LifeEvent) (k : ℕ) (s : Step) (n : ℕ) (w : Components) → Leaves w → GoesBy o k s n w → Leaves (gone_by o k s n w)
-gone_by_keeps o k s n w i f = gone_by_each Leaves o k s n w (child_gone_keeps k n w i)
+gone_by_keeps : (o : Option LifeEvent) (k : ℕ) (s : Step) (n : ℕ) (w : Components) → AreLeaving w → GoesBy o k s n w → AreLeaving (gone_by o k s n w)
+gone_by_keeps o k s n w i f = gone_by_each AreLeaving o k s n w (child_gone_keeps k n w i)
     (λ e y. plain_keeps k e (child_gone k n w) (child_gone_keeps k n w i) (gone_befalls o k s n e w i.orderly y f))
 
-pub ended_keeps : (n : ℕ) (e : Exit) (w : Components) → Leaves w → Leaves (ended n e w)
-ended_keeps n e w i = ended_by Leaves n e w i (λ o q. gone_by_keeps (Some (event.Ended o.1 e)) o.0 o.1 n w i (end_goes n e w o q))
+pub ended_keeps : (n : ℕ) (e : Exit) (w : Components) → AreLeaving w → AreLeaving (ended n e w)
+ended_keeps n e w i = ended_by AreLeaving n e w i (λ o q. gone_by_keeps (Some (event.Ended o.1 e)) o.0 o.1 n w i (end_goes n e w o q))
 
-pub killed_keeps : (n : ℕ) (w : Components) → Leaves w → Leaves (killed n w)
-killed_keeps n w i = killed_by Leaves n w i (λ o q. gone_by_keeps (kill_event_at o.0 o.1 n w) o.0 o.1 n w i (kill_goes n w o q))
+pub killed_keeps : (n : ℕ) (w : Components) → AreLeaving w → AreLeaving (killed n w)
+killed_keeps n w i = killed_by AreLeaving n w i (λ o q. gone_by_keeps (kill_event_at o.0 o.1 n w) o.0 o.1 n w i (kill_goes n w o q))

@@ -5,9 +5,9 @@ use Rattle.components.specs.Components.{Components, ComponentState, is_leaving}
 use Rattle.law_supervisor.specs.Sound.{IsOrderly}
 
 -- It goes away, so that it fails no more, and no item takes its place.
-abbrev pub LeavesPart : ComponentState → Type 0
-LeavesPart p = (is_leaving p ≡ true) × (p.owed ≡ None) × (p.next ≡ None)
+abbrev pub IsLeavingPart : ComponentState → Type 0
+IsLeavingPart p = (is_leaving p ≡ true) × (p.owed ≡ None) × (p.next ≡ None)
 
-pub record Leaves (w : Components) : Type 0 where
+pub record AreLeaving (w : Components) : Type 0 where
   pub orderly : IsOrderly w
-  pub each : AllByRecursion LeavesPart w.parts
+  pub each : AllByRecursion IsLeavingPart w.parts

@@ -7,8 +7,8 @@ use Rattle.components.specs.Turns.{IsQuiet}
 use Rattle.components.specs.Answers.{has_answered}
 use Rattle.histories.specs.Phases.{Phase, idle, booting, activating, backing, rolling, duty_of, Generation, draining, shutting_down}
 use Rattle.histories.specs.States.{SessionState}
-use Rattle.histories.specs.Courses.{Stands}
-use Rattle.session_shutdown.specs.Leaves.{Leaves}
+use Rattle.histories.specs.Courses.{IsStateOf}
+use Rattle.session_shutdown.specs.Leaves.{AreLeaving}
 
 -- Who the components are while all are stopped. The plan's items are not all stopped while they come up.
 abbrev pub IsGoing : Phase → Generation → Type 0
@@ -26,24 +26,24 @@ pub record IsOn (p : SessionState) : Type 0 where
   pub over : p.over ≡ false
   pub cut : p.cut ≡ false
 
--- At a turn's front: the supervisor may not know of the last moment yet.
+-- At a turn's start: the supervisor may not know of the last moment yet.
 pub record IsAtTurnStart (p : SessionState) (d : Device) (world : Components) (told : Told) (living : List ℕ) : Type 0 where
-  pub stands : Stands p d world told living
+  pub stands : IsStateOf p d world told living
   pub on : IsOn p
-  pub keeps : Leaves p.world
+  pub keeps : AreLeaving p.world
   pub probed : p.probed ≡ false
 
 -- Within a turn: the moment of the components is the runner's, and it was asked for where one is due.
 pub record IsWithin (p : SessionState) (told : Told) (living : List ℕ) : Type 0 where
   pub on : IsOn p
-  pub keeps : Leaves p.world
+  pub keeps : AreLeaving p.world
   pub answered : has_answered p.world ≡ true
   pub moment : told.moment ≡ p.world.moment
   pub asked : told.asked ≡ p.fresh
   pub due : p.due ≡ true → p.fresh ≡ true
   pub children : (n : ℕ) → Contains living n ↔ IsSome (owner n p.world.parts)
 
--- the supervisor's components are those of the place
+-- the supervisor's components are those of the state
 pub record IsInTurn (p : SessionState) (world : Components) (told : Told) (living : List ℕ) : Type 0 where
   pub within : IsWithin p told living
   pub probed : p.probed ≡ false

@@ -4,20 +4,20 @@ use Rattle.device.specs.Devices.{Device}
 use Rattle.step_runner.specs.Entries.{Told}
 use Rattle.components.specs.Components.{Components, is_stopped}
 use Rattle.components.specs.Turns.{IsQuiet}
-use Rattle.law_supervisor.specs.Keeps.{IsTold}
+use Rattle.law_supervisor.specs.Keeps.{HasNoneOwed}
 use Rattle.law_supervisor.specs.Sound.{IsOrderly}
 use Rattle.histories.specs.Phases.{duty_of}
 use Rattle.histories.specs.States.{SessionState}
 use Rattle.histories.specs.Follows.{MayStopAll}
-use Rattle.histories.specs.Courses.{IsBare, Stands}
+use Rattle.histories.specs.Courses.{IsBare, IsStateOf}
 use Rattle.session_shutdown.specs.Runs.{IsAtTurnStart, IsGoing}
 
 -- All components may be stopped here, no failure is still to be recorded, and no bootstrap is about.
 pub record MayStop (p : SessionState) (d : Device) (world : Components) (told : Told) (living : List ℕ) : Type 0 where
-  pub stands : Stands p d world told living
+  pub stands : IsStateOf p d world told living
   pub may : MayStopAll (duty_of p.device) (duty_of p.device).phase p.generation p
   pub orderly : IsOrderly p.world
-  pub owed : IsTold p.world
+  pub owed : HasNoneOwed p.world
   pub boot : p.boot ≡ None
   pub boot_end : p.boot_end ≡ None
   pub over : p.over ≡ false
@@ -25,7 +25,7 @@ pub record MayStop (p : SessionState) (d : Device) (world : Components) (told : 
 
 -- None stands, none may act, no child lives and nothing is still to be recorded.
 pub record HasStopped (p : SessionState) (d : Device) (world : Components) (told : Told) (living : List ℕ) : Type 0 where
-  pub stands : Stands p d world told living
+  pub stands : IsStateOf p d world told living
   pub stopped : is_stopped p.world ≡ true
   pub quiet : IsQuiet p.world
   pub going : IsGoing (duty_of p.device).phase p.generation

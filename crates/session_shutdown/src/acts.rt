@@ -2,8 +2,8 @@
 ghost use Rattle.std.specs.Prelude.{◌≡◌, ◌<◌, ◌^◌, List, true, false};
 ghost use Rattle.histories.specs.TraceEvents.{TraceEvent};
 ghost use Rattle.histories.specs.States.{SessionState, state_after};
-ghost use Rattle.session_boots.specs.Traces.{Acts};
-ghost use Rattle.law_termination.specs.Drives.{Drives, Falls, NotAbove};
+ghost use Rattle.session_boots.specs.Traces.{ActTrace};
+ghost use Rattle.law_termination.specs.Drives.{AreDriven, HasFewerLoops, NotAbove};
 ghost use Rattle.session_shutdown.specs.Runs.{ActLeft, IsInTurn};
 ghost use Rattle.session_boots.specs.Stages.{AsTold};
 
@@ -15,14 +15,14 @@ use step_runner::Runner;
 /// Takes the next act. Tells whether there was none. A failure is none: who leaves owes none.
 fn take_act<R: Runner, S: Supervise>(runner: &mut R, supervisor: &mut S, now: u64) -> bool
     requires now { (R.told runner.old ≡ now) × (now < 2 ^ 62) }
-    requires drives { Drives (S.world supervisor.old) }
-    requires placed { (p : SessionState) × AsTold R.Runner runner.old (IsInTurn p (S.world supervisor.old)) }
+    requires drives { AreDriven (S.world supervisor.old) }
+    requires from_state { (p : SessionState) × AsTold R.Runner runner.old (IsInTurn p (S.world supervisor.old)) }
     ensures now { R.told runner.new ≡ now }
     ensures trace { (p : SessionState) → AsTold R.Runner runner.old (IsInTurn p (S.world supervisor.old)) →
-        (h : List TraceEvent) × Acts p h (R.list runner.old) (R.list runner.new)
+        (h : List TraceEvent) × ActTrace p h (R.list runner.old) (R.list runner.new)
         × AsTold R.Runner runner.new (ActLeft (state_after p h) result (S.world supervisor.new)) }
     ensures not_above { NotAbove (S.world supervisor.old) (S.world supervisor.new) }
-    ensures falls { result ≡ false → Falls (S.world supervisor.old) (S.world supervisor.new) }
+    ensures falls { result ≡ false → HasFewerLoops (S.world supervisor.old) (S.world supervisor.new) }
 {
     leaving_laws();
     match act(runner, supervisor, now) {
@@ -35,11 +35,11 @@ fn take_act<R: Runner, S: Supervise>(runner: &mut R, supervisor: &mut S, now: u6
 /// Takes acts until none is left.
 pub(crate) fn take_acts<R: Runner, S: Supervise>(runner: &mut R, supervisor: &mut S, now: u64)
     requires now { (R.told runner.old ≡ now) × (now < 2 ^ 62) }
-    requires drives { Drives (S.world supervisor.old) }
-    requires placed { (p : SessionState) × AsTold R.Runner runner.old (IsInTurn p (S.world supervisor.old)) }
+    requires drives { AreDriven (S.world supervisor.old) }
+    requires from_state { (p : SessionState) × AsTold R.Runner runner.old (IsInTurn p (S.world supervisor.old)) }
     ensures now { R.told runner.new ≡ now }
     ensures trace { (p : SessionState) → AsTold R.Runner runner.old (IsInTurn p (S.world supervisor.old)) →
-        (h : List TraceEvent) × Acts p h (R.list runner.old) (R.list runner.new)
+        (h : List TraceEvent) × ActTrace p h (R.list runner.old) (R.list runner.new)
         × AsTold R.Runner runner.new (ActLeft (state_after p h) true (S.world supervisor.new)) }
     ensures not_above { NotAbove (S.world supervisor.old) (S.world supervisor.new) }
 {

@@ -3,11 +3,11 @@ ghost use Rattle.std.specs.Prelude.{◌≡◌, ◌⊎◌, ◌<◌, ◌+◌, ◌^
 ghost use Rattle.device.specs.Devices.{Device};
 ghost use Rattle.histories.specs.TraceEvents.{TraceEvent};
 ghost use Rattle.histories.specs.States.{SessionState, state_after};
-ghost use Rattle.session_boots.specs.Traces.{Acts};
+ghost use Rattle.session_boots.specs.Traces.{ActTrace};
 ghost use Rattle.law_termination.specs.Kept.{IsFalling};
 ghost use Rattle.law_termination.specs.Rank.{rank};
 ghost use Rattle.law_termination.specs.Time.{HasTime};
-ghost use Rattle.law_termination.specs.Drives.{Drives, NotAbove};
+ghost use Rattle.law_termination.specs.Drives.{AreDriven, NotAbove};
 ghost use Rattle.session_shutdown.specs.Runs.{IsAtTurnStart, IsReadyToWait};
 ghost use Rattle.session_boots.specs.Stages.{AsTold};
 
@@ -19,11 +19,11 @@ use step_runner::Runner;
 /// Waits for the end of a child or to the next deadline, and tells what came.
 pub(crate) fn wait_once<R: Runner, S: Supervise>(runner: &mut R, supervisor: &mut S, now: u64)
     requires now { (R.told runner.old ≡ now) × (now < 2 ^ 62) }
-    requires drives { Drives (S.world supervisor.old) × IsFalling (S.world supervisor.old) }
+    requires drives { AreDriven (S.world supervisor.old) × IsFalling (S.world supervisor.old) }
     requires time { HasTime (S.world supervisor.old) × ((S.world supervisor.old).moment + 1 < 2 ^ 62) }
-    requires placed { (p : SessionState) × AsTold R.Runner runner.old (IsReadyToWait p (S.world supervisor.old)) }
+    requires from_state { (p : SessionState) × AsTold R.Runner runner.old (IsReadyToWait p (S.world supervisor.old)) }
     ensures trace { (p : SessionState) → (d : Device) → p.device ≡ d → AsTold R.Runner runner.old (IsReadyToWait p (S.world supervisor.old)) →
-        (h : List TraceEvent) × Acts p h (R.list runner.old) (R.list runner.new)
+        (h : List TraceEvent) × ActTrace p h (R.list runner.old) (R.list runner.new)
         × AsTold R.Runner runner.new (IsAtTurnStart (state_after p h) d (S.world supervisor.new)) }
     // A child ends, or time goes on.
     ensures not_above { NotAbove (S.world supervisor.old) (S.world supervisor.new) }

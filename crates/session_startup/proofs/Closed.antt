@@ -6,7 +6,7 @@ use Rattle.std.specs.Option.{IsSomeAnd, option_map_or}
 use Rattle.std.proofs.Common.{◌≡◌, ◌↔◌, ◌∙◌, inl, refl, sym, ap, subst, arith}
 use Rattle.std.proofs.lemmas.Bool.Decides.{nat_tests}
 use Rattle.std.proofs.lemmas.List.{append-nil}
-use Rattle.disk_model.specs.Disk.{Image, Leaves, DiskLaws}
+use Rattle.disk_model.specs.Disk.{Image, HasLeft, DiskLaws}
 use Rattle.nuc_base.specs.declared.kinds.Outcome.{Outcome}
 use Rattle.nuc_base.specs.declared.kinds.Outcome.TheVariants as outcomes
 use Rattle.nuc_base.specs.declared.kinds.Step.{Step}
@@ -32,13 +32,13 @@ use Rattle.histories.specs.States.{SessionState, leaves}
 use Rattle.histories.specs.Waits.{has_three}
 use Rattle.histories.specs.Follows.{MayClose as MayEnd}
 use Rattle.session_boots.specs.Lines.{closed_line, id_of, line_of, lines_of}
-use Rattle.session_boots.specs.Ends.{Left, LeftAt}
+use Rattle.session_boots.specs.Ends.{ResultLeft, LeftAt}
 use Rattle.session_boots.specs.Traces.{IsTrace}
 use Rattle.session_boots.specs.declared.ends.SessionFault.{SessionFault}
 use Rattle.session_boots.specs.declared.ends.SessionFault.TheVariants as over
 use Rattle.session_boots.proofs.Joins.{kept_one}
 use Rattle.session_boots.proofs.Records.{doubt_at}
-use Rattle.law_supervisor.specs.Sound.{Differ}
+use Rattle.law_supervisor.specs.Sound.{AreDistinct}
 use Rattle.law_supervisor.proofs.Steadied.{closed_orderly, living_steadied, owes_steadied, owner_steadied}
 use Rattle.session_startup.specs.Closing.{MayCloseNow, just_closed}
 use Rattle.session_startup.specs.Ended.{HasClosed}
@@ -53,15 +53,15 @@ is_cond : (b : Bool) (k : ℕ) → is_some (if b then Some k else None) ≡ b
 is_cond true k = refl
 is_cond false k = refl
 
-eq_turned : (a b : ℕ) → nat_eq a b ≡ (b == a)
-eq_turned a b = grind (arith, nat_tests)
+eq_swapped : (a b : ℕ) → nat_eq a b ≡ (b == a)
+eq_swapped a b = grind (arith, nat_tests)
 
 abbrev Found : List ℕ → Type 0
 Found l = nat_lt (position_or_len (nat_eq 3) l) (length l) ≡ list_any (λ n. n == 3) l
 
 found_by : (x : ℕ) (l : List ℕ) (b : Bool) → nat_eq 3 x ≡ b → Found l → Found (x ∷ l)
-found_by x l true is rest = let turned : (x == 3) ≡ true = sym (eq_turned 3 x) ∙ is in grind (arith, nat_tests, is, turned)
-found_by x l false is rest = let turned : (x == 3) ≡ false = sym (eq_turned 3 x) ∙ is in grind (arith, nat_tests, is, turned, rest)
+found_by x l true is rest = let turned : (x == 3) ≡ true = sym (eq_swapped 3 x) ∙ is in grind (arith, nat_tests, is, turned)
+found_by x l false is rest = let turned : (x == 3) ≡ false = sym (eq_swapped 3 x) ∙ is in grind (arith, nat_tests, is, turned, rest)
 
 found_in : (l : List ℕ) → Found l
 found_in [] = refl
@@ -177,7 +177,7 @@ closed_at p d e b o world told living pending r same =
         there = inl (present_is p.generation on.generation);
         boot = on.boot;
         boot_end = on.boot_end;
-        told = owes_steadied p.world ∙ r.quiet.told;
+        owes_none = owes_steadied p.world ∙ r.quiet.owes_none;
         over = refl;
         cut = on.cut;
       };
@@ -190,9 +190,9 @@ closed_at p d e b o world told living pending r same =
 -- where the close left the call
 pub left_closed : {J D : Type 0} (entries : Image → List (List ℕ) → Type 0) (may_leave : D → Image → Type 0) (disk : D) (p : SessionState) (d : Device)
     (b : Bool) (o : Outcome) (world now : Components) (told : Told) (living : List ℕ) → IsSome d.pending → HasNoActLeft p d b world told living →
-    (result : Result (Idle J) SessionFault) → Left entries may_leave disk p (just_closed o) (λ s q. idle_device s ≡ q.device) result →
+    (result : Result (Idle J) SessionFault) → ResultLeft entries may_leave disk p (just_closed o) (λ s q. idle_device s ≡ q.device) result →
     OnOk result (now ≡ steadied world)
-    → Left entries may_leave disk p (just_closed o) (λ s q. HasClosed o current (just_closed o) q (idle_device s) now told living) result
+    → ResultLeft entries may_leave disk p (just_closed o) (λ s q. HasClosed o current (just_closed o) q (idle_device s) now told living) result
 left_closed entries may_leave disk p d b o world now told living pending r (Ok s) same is = subst
     (λ (w : Components). HasClosed o current (just_closed o) (leaves p (Recorded (stored.Closed o))) (idle_device s) w told living) (sym is)
     (closed_at p d (idle_device s) b o world told living pending r (same ∙ ap (λ (x : Device). applied x (stored.Closed o)) r.device_is))
@@ -212,7 +212,7 @@ closed_quits p d b o world now told living r same =
       boot_end = w.on.boot_end;
       over = refl;
       cut = w.on.cut;
-      differ = subst (λ (l : List ℕ). Differ l) (sym (living_steadied p.world)) w.keeps.differ;
+      differ = subst (λ (l : List ℕ). AreDistinct l) (sym (living_steadied p.world)) w.keeps.differ;
       owners = λ n. same n ∙ sym (owner_steadied n p.world);
       children = λ n. subst (λ (x : Option (ℕ × Step)). Contains living n ↔ IsSome x) (sym (owner_steadied n p.world)) (w.children n);
     }
@@ -237,7 +237,7 @@ close_follows p d b o world told living r may =
     record {
       device_is = r.device_is;
       follows = (
-        (record { told = r.quiet.told; alone = on.boot; no_end = on.boot_end; on = not_closing p.generation on.generation }, may),
+        (record { owes_none = r.quiet.owes_none; alone = on.boot; no_end = on.boot_end; on = not_closing p.generation on.generation }, may),
         (λ cut. absurd (never p.cut on.cut cut)),
         on.over,
       );
@@ -259,7 +259,7 @@ module _ (entries : Image → List (List ℕ) → Type 0) (files : List ℕ → 
     ℕ → Image → Type 0} {is_modelled : Bool} {seen : D → Image}
     (laws : DiskLaws is_modelled seen may_leave moment left_since) where
   abbrev pub Notes : D → D → Device → Record → Type 0
-  Notes old new d r = Leaves moment left_since old new (LeavesEither may_leave files entries old d (applied d r))
+  Notes old new d r = HasLeft moment left_since old new (LeavesEither may_leave files entries old d (applied d r))
 
   pub close_went : (old new : D) (list : Option (List RunnerEntry)) (p : SessionState) (d : Device) (o : Outcome) → MayCloseNow p d o →
       Allowed d (stored.Closed o) → Notes old new d (stored.Closed o) → IsTrace entries files may_leave moment left_since old new list list p (just_closed o)

@@ -14,8 +14,8 @@ use Rattle.histories.specs.TraceEvents.{TraceEvent, Ran}
 use Rattle.histories.specs.States.{SessionState, leaves, state_after, ran}
 use Rattle.histories.specs.Waits.{may_drive}
 use Rattle.histories.specs.Follows.{MayRun}
-use Rattle.session_boots.specs.Traces.{Acts}
-use Rattle.law_supervisor.specs.Keeps.{Keeps}
+use Rattle.session_boots.specs.Traces.{ActTrace}
+use Rattle.law_supervisor.specs.Keeps.{IsSupervised}
 use Rattle.law_supervisor.specs.Sound.{IsOrderly}
 use Rattle.session_acts.specs.Runs as turn
 use Rattle.session_acts.specs.Traces.{ActsInTurn, IsActEntry}
@@ -42,7 +42,7 @@ drives p on = drives_in (duty_of p.device).phase p.generation p.serves on.phase 
 pub driving_of : (p : SessionState) → IsOn p → turn.IsDriving p
 driving_of p on = record { drives = drives p on; boot = on.boot; boot_end = on.boot_end; over = on.over; cut = on.cut }
 
-orderly_of : (d : Device) (w : Components) → Keeps d w → IsOrderly w
+orderly_of : (d : Device) (w : Components) → IsSupervised d w → IsOrderly w
 orderly_of d w k = record { sound = k.sound; differ = k.differ; names = k.names }
 
 pub start_of : {p : SessionState} {d : Device} {world : Components} {told : Told} {living : List ℕ} → IsAtTurnStart p d world told living →
@@ -67,19 +67,19 @@ turn_of r = record { within = within_of r.within; probed = r.probed; world_is = 
 
 pub record InStage (p : SessionState) : Type 0 where
   pub on : IsOn p
-  pub keeps : Keeps p.device p.world
+  pub keeps : IsSupervised p.device p.world
 
 pub on_ran : (p : SessionState) (e : RunnerEntry) (k : ℕ) (t : Step) → IsOn p → IsOn (leaves p (Ran e k t))
 on_ran p e k t on = record { phase = on.phase; generation = on.generation; boot = on.boot; boot_end = on.boot_end; over = on.over; cut = on.cut }
 
-ran_keeps : Laws → (p : SessionState) (s : Seen) (k : ℕ) (t : Step) → MayRun (duty_of p.device) p s k t → IsActEntry p s → Keeps p.device p.world →
-    Keeps p.device (ran s k t p.world)
-ran_keeps laws p (seen.Started n c) k t may is keeps = laws.keeps_started p.device k t n p.world is may.0.told keeps
-ran_keeps laws p (seen.Refused c) k t may is keeps = laws.keeps_refused p.device k t p.world may.0.told keeps
-ran_keeps laws p (seen.Killed n) k t may is keeps = laws.keeps_killed p.device n p.world may.0.told keeps
-ran_keeps laws p (seen.Exists x true) k t may is keeps = laws.keeps_skipped p.device k p.world may.0.told keeps
+ran_keeps : Laws → (p : SessionState) (s : Seen) (k : ℕ) (t : Step) → MayRun (duty_of p.device) p s k t → IsActEntry p s → IsSupervised p.device p.world →
+    IsSupervised p.device (ran s k t p.world)
+ran_keeps laws p (seen.Started n c) k t may is keeps = laws.keeps_started p.device k t n p.world is may.0.owes_none keeps
+ran_keeps laws p (seen.Refused c) k t may is keeps = laws.keeps_refused p.device k t p.world may.0.owes_none keeps
+ran_keeps laws p (seen.Killed n) k t may is keeps = laws.keeps_killed p.device n p.world may.0.owes_none keeps
+ran_keeps laws p (seen.Exists x true) k t may is keeps = laws.keeps_skipped p.device k p.world may.0.owes_none keeps
 ran_keeps laws p (seen.Exists x false) k t may is keeps = keeps
-ran_keeps laws p (seen.OnPath x true) k t may is keeps = laws.keeps_skipped p.device k p.world may.0.told keeps
+ran_keeps laws p (seen.OnPath x true) k t may is keeps = laws.keeps_skipped p.device k p.world may.0.owes_none keeps
 ran_keeps laws p (seen.OnPath x false) k t may is keeps = keeps
 ran_keeps laws p (seen.Ended n e limit) k t may is keeps = absurd is
 ran_keeps laws p (seen.Elapsed limit) k t may is keeps = absurd is
@@ -118,24 +118,24 @@ did_in did.Nothing world told living s r = (turn_in s r.0, r.1)
 did_in did.Something world told living s r = turn_in s r
 did_in (did.Failed k t e) world told living s f = record { within = within_in s f.within; breaks = f.breaks; owes = f.owes; world_is = f.world_is }
 
-module _ (laws : Laws) (p : SessionState) (on : IsOn p) (keeps : Keeps p.device p.world) {old new : Option (List RunnerEntry)} where
+module _ (laws : Laws) (p : SessionState) (on : IsOn p) (keeps : IsSupervised p.device p.world) {old new : Option (List RunnerEntry)} where
   stage_after : (h : List TraceEvent) → ActsInTurn p h old new → InStage (state_after p h)
   stage_after h a = kept_along InStage (stage_kept laws) p h a.acts.proper a.each (record { on = on; keeps = keeps })
 
   -- what a part of a turn leaves it leaves in the stage
   pub turn_left : {world : Components} {told : Told} {living : List ℕ} →
       ((h : List TraceEvent) × ActsInTurn p h old new × turn.IsInTurn (state_after p h) world told living) →
-      (h : List TraceEvent) × Acts p h old new × IsInTurn (state_after p h) world told living
+      (h : List TraceEvent) × ActTrace p h old new × IsInTurn (state_after p h) world told living
   turn_left x = (x.0, x.1.acts, turn_in (stage_after x.0 x.1) x.2)
 
   pub did_left : (d : Did) (world : Components) (told : Told) (living : List ℕ) →
       ((h : List TraceEvent) × ActsInTurn p h old new × turn.DidLeave d (state_after p h) world told living) →
-      (h : List TraceEvent) × Acts p h old new × DidLeave d (state_after p h) world told living
+      (h : List TraceEvent) × ActTrace p h old new × DidLeave d (state_after p h) world told living
   did_left d world told living x = (x.0, x.1.acts, did_in d world told living (stage_after x.0 x.1) x.2)
 
--- ---- a turn's front
+-- ---- a turn's start
 
--- back at a front
+-- back at a start
 pub comes_of : (p : SessionState) (d : Device) (world : Components) (told : Told) (living : List ℕ) → IsInTurn p world told living → p.device ≡ d →
     IsAtTurnStart p d world told living
 comes_of p d world told living r device = record {

@@ -11,10 +11,10 @@ use Rattle.device.specs.declared.staged.Stage.{Stage}
 use Rattle.device.specs.declared.staged.Stage.TheVariants as stages
 use Rattle.components.specs.Components.{Components, ComponentState, At, changed_at, is_spared, component_name, place_of}
 use Rattle.components.specs.Acts.{OwesAt}
-use Rattle.components.specs.Events.{told_at, told_of}
+use Rattle.components.specs.Events.{heard_at, heard_of}
 use Rattle.histories.specs.Phases.{duty_of, duty_in}
 use Rattle.histories.specs.Follows.{OwesBy}
-use Rattle.law_supervisor.specs.Keeps.{AgreesBy, IsCounted, Keeps}
+use Rattle.law_supervisor.specs.Keeps.{AgreesBy, IsCounted, IsSupervised}
 
 -- the component at the place, and its name after its failure was told
 pub record Named (k : ℕ) (parts : List ComponentState) (P : ComponentState → Type 0) : Type 0 where
@@ -71,8 +71,8 @@ some_same : (a c : List ℕ) → Some a ≡ Some c → a ≡ c
 some_same a c e = ap (λ (o : Option (List ℕ)). elim o [ None ↦ a | Some y ↦ y ]) e
 
 -- by the name that the supervisor tells
-can_fail : (d : Device) (w : Components) (k : ℕ) (s : Step) (e : Exit) (b : Bool) (n : List ℕ) → Keeps d w → OwesAt w k s e b →
-    slice_get (map component_name (told_at k w).parts) k ≡ Some n → CanFail d w k s e n
+can_fail : (d : Device) (w : Components) (k : ℕ) (s : Step) (e : Exit) (b : Bool) (n : List ℕ) → IsSupervised d w → OwesAt w k s e b →
+    slice_get (map component_name (heard_at k w).parts) k ≡ Some n → CanFail d w k s e n
 can_fail d w k s e b n keeps owes is =
     let x = named k w.parts _ owes in
     let same : component_name x.part ≡ n = some_same (component_name x.part) n (sym x.name ∙ is) in
@@ -88,12 +88,12 @@ can_fail d w k s e b n keeps owes is =
     }
 
 -- the same of the supervisor's components, where the failure was told
-pub can_tell : (d : Device) (w v : Components) (k : ℕ) (s : Step) (e : Exit) (b : Bool) (n : List ℕ) → Keeps d w → OwesAt w k s e b → v ≡ told_at k w →
+pub can_tell : (d : Device) (w v : Components) (k : ℕ) (s : Step) (e : Exit) (b : Bool) (n : List ℕ) → IsSupervised d w → OwesAt w k s e b → v ≡ heard_at k w →
     slice_get (map component_name v.parts) k ≡ Some n → CanFail d w k s e n
 can_tell d w v k s e b n keeps owes is name = can_fail d w k s e b n keeps owes
     (subst (λ (x : Components). slice_get (map component_name x.parts) k ≡ Some n) is name)
 
-pub within_told : (w v : Components) (k : ℕ) (s : Step) (e : Exit) (b : Bool) → OwesAt w k s e b → v ≡ told_at k w → k < length v.parts
+pub within_told : (w v : Components) (k : ℕ) (s : Step) (e : Exit) (b : Bool) → OwesAt w k s e b → v ≡ heard_at k w → k < length v.parts
 within_told w v k s e b owes is = subst (λ (x : Components). k < length x.parts) (sym is) (named k w.parts _ owes).within
 
 -- ---- the stage
@@ -118,5 +118,5 @@ same_phase d (Some q) n s e = phase_in (pends d (Some q)) (pends d (Some (count_
 pub phase_on : (d : Device) (n : List ℕ) (s : Step) (e : Exit) → (duty_of (applied d (stored.StepFailed n s e))).phase ≡ (duty_of d).phase
 phase_on d n s e = same_phase d d.pending n s e
 
-pub told_same : (n : List ℕ) (k : ℕ) (w : Components) → place_of n w.parts ≡ Some k → told_of n w ≡ told_at k w
-told_same n k w is = ap (λ (o : Option ℕ). elim o as (λ x. Components) [ None ↦ w | Some j ↦ told_at j w ]) is
+pub told_same : (n : List ℕ) (k : ℕ) (w : Components) → place_of n w.parts ≡ Some k → heard_of n w ≡ heard_at k w
+told_same n k w is = ap (λ (o : Option ℕ). elim o as (λ x. Components) [ None ↦ w | Some j ↦ heard_at j w ]) is

@@ -13,13 +13,13 @@ use Rattle.nuc_base.specs.declared.kinds.Step.{Step}
 use Rattle.step_runner.specs.Entries.{Told}
 use Rattle.components.specs.Turns.{owes}
 use Rattle.components.specs.Components.{ComponentState, Components, component_name, is_broken, is_gone, is_leaving, is_settled, is_spared, under_way}
-use Rattle.law_supervisor.specs.Keeps.{AgreesBy, Keeps, count_of}
+use Rattle.law_supervisor.specs.Keeps.{AgreesBy, IsSupervised, count_of}
 use Rattle.histories.specs.Phases.{duty_in, duty_of}
 use Rattle.histories.specs.States.{SessionState}
 use Rattle.histories.specs.Waits.{has_three}
 use Rattle.law_termination.specs.Kept.{IsFalling}
 use Rattle.law_termination.specs.Time.{HasTime}
-use Rattle.law_termination.specs.Drives.{Drives, has_failed}
+use Rattle.law_termination.specs.Drives.{AreDriven, has_failed}
 use Rattle.law_termination.proofs.Stands.{rises}
 use Rattle.session_startup.specs.Runs.{IsReadyToWait, IsInTurn}
 
@@ -87,7 +87,7 @@ agreed : (d : Device) (n : List ℕ) (f : ℕ) (o : Option (Step × Exit)) → o
 agreed d n f None e a = a
 agreed d n f (Some x) e a = absurd (cc)
 
-pub broken_three : (d : Device) (w : Components) → Keeps d w → list_any owes w.parts ≡ false → has_failed w ≡ true → has_three (duty_of d).counts ≡ true
+pub broken_three : (d : Device) (w : Components) → IsSupervised d w → list_any owes w.parts ≡ false → has_failed w ≡ true → has_three (duty_of d).counts ≡ true
 broken_three d w keeps told e =
     let o = one_of (λ p. is_broken p.life.state && not (is_spared p || is_leaving p)) w.parts e in
     let p = o.part in
@@ -113,13 +113,13 @@ at_work false false e = (refl, refl)
 abbrev Goes : Components → Type 0
 Goes w = HasTime w × (w.moment + 1 < 2 ^ 62)
 
-pub sits_time : (p : SessionState) (world : Components) (told : Told) (living : List ℕ) → IsReadyToWait p world told living → Drives world → Goes world
+pub sits_time : (p : SessionState) (world : Components) (told : Told) (living : List ℕ) → IsReadyToWait p world told living → AreDriven world → Goes world
 sits_time p world told living s d = subst (λ (w : Components). Goes w) (sym s.runs.world_is)
-    (by (rises p.world (subst (λ (w : Components). Drives w) s.runs.world_is d) s.runs.within.answered s.quiet))
+    (by (rises p.world (subst (λ (w : Components). AreDriven w) s.runs.world_is d) s.runs.within.answered s.quiet))
   where
     by : (is_settled p.world ≡ true) ⊎ (has_failed p.world ≡ true) ⊎ Goes p.world → Goes p.world
     by (inl e) = clash (is_settled p.world) e (at_work (is_settled p.world) (has_three (duty_of p.device).counts) s.work).0
-    by (inr (inl e)) = clash (has_three (duty_of p.device).counts) (broken_three p.device p.world s.runs.within.keeps s.quiet.told e)
+    by (inr (inl e)) = clash (has_three (duty_of p.device).counts) (broken_three p.device p.world s.runs.within.keeps s.quiet.owes_none e)
         (at_work (is_settled p.world) (has_three (duty_of p.device).counts) s.work).1
     by (inr (inr t)) = t
 

@@ -135,4 +135,4 @@ acts_same w (p ∷ ps) = ap (λ (b : Bool). b || list_any (may_act (steadied w))
     (acts_same w ps)
 
 pub quiet_steadied : (w : Components) → IsQuiet w → IsQuiet (steadied w)
-quiet_steadied w q = record { told = owes_steadied w ∙ q.told; none = acts_same w w.parts ∙ q.none }
+quiet_steadied w q = record { owes_none = owes_steadied w ∙ q.owes_none; none = acts_same w w.parts ∙ q.none }

@@ -2,7 +2,7 @@
 use Rattle.std.specs.Prelude.{ℕ, Bool, List, [], true, ◌∷◌, Option, Some, None, Contains, IsSome}
 use Rattle.std.proofs.Common.{◌≡◌, ◌↔◌, ◌∙◌, refl, sym, ap, subst}
 use Rattle.std.proofs.lemmas.List.{append-nil}
-use Rattle.disk_model.specs.Disk.{Image, Leaves, DiskLaws}
+use Rattle.disk_model.specs.Disk.{Image, HasLeft, DiskLaws}
 use Rattle.nuc_base.specs.declared.kinds.Exit.{Exit}
 use Rattle.nuc_base.specs.declared.kinds.Step.{Step}
 use Rattle.records.specs.Stored as stored
@@ -14,7 +14,7 @@ use Rattle.step_runner.specs.Entries.{Told}
 use Rattle.step_runner.specs.declared.entries.RunnerEntry.{RunnerEntry}
 use Rattle.components.specs.Components.{Components, owner}
 use Rattle.components.specs.Answers.{has_answered}
-use Rattle.components.specs.Events.{told_at}
+use Rattle.components.specs.Events.{heard_at}
 use Rattle.histories.specs.Phases.{Phase}
 use Rattle.histories.specs.TraceEvents.{Recorded, records_of}
 use Rattle.histories.specs.States.{SessionState, leaves}
@@ -25,7 +25,7 @@ use Rattle.session_boots.specs.Traces.{IsTrace}
 use Rattle.session_boots.specs.declared.ends.SessionFault.TheVariants as over
 use Rattle.session_boots.proofs.Joins.{kept_one}
 use Rattle.session_boots.proofs.Records.{doubt_at}
-use Rattle.law_supervisor.specs.Keeps.{Keeps}
+use Rattle.law_supervisor.specs.Keeps.{IsSupervised}
 use Rattle.session_startup.specs.Laws.{Laws}
 use Rattle.session_startup.specs.Runs.{HasFailed, IsInTurn, rises}
 use Rattle.session_acts.proofs.Answered.{free_is, free_told, is_free}
@@ -48,15 +48,15 @@ fail_runs laws p k s e n world told living h can =
           over = refl;
           cut = w.on.cut;
         };
-        keeps = subst (λ (v : Components). Keeps (applied p.device (stored.StepFailed n s e)) v) (sym same)
+        keeps = subst (λ (v : Components). IsSupervised (applied p.device (stored.StepFailed n s e)) v) (sym same)
             (laws.keeps_told p.device k n s e h.breaks p.world w.keeps h.owes can.named);
         answered = subst (λ (v : Components). has_answered v ≡ true) (sym same)
-            (free_is (told_at k p.world) (free_told k p.world ∙ is_free p.world w.answered));
+            (free_is (heard_at k p.world) (free_told k p.world ∙ is_free p.world w.answered));
         moment = w.moment ∙ sym (ap (λ (v : Components). v.moment) same);
         asked = w.asked;
         due = w.due;
         children = λ m. subst (λ (o : Option (ℕ × Step)). Contains living m ↔ IsSome o)
-            (sym (ap (λ (v : Components). owner m v.parts) same ∙ laws.owner_told m k p.world)) (w.children m);
+            (sym (ap (λ (v : Components). owner m v.parts) same ∙ laws.owner_heard m k p.world)) (w.children m);
       };
       probed = refl;
       world_is = h.world_is ∙ sym same;
@@ -101,7 +101,7 @@ module _ (entries : Image → List (List ℕ) → Type 0) (files : List ℕ → 
     ℕ → Image → Type 0} {is_modelled : Bool} {seen : D → Image}
     (laws : DiskLaws is_modelled seen may_leave moment left_since) where
   abbrev Notes : D → D → Device → Record → Type 0
-  Notes old new d r = Leaves moment left_since old new (LeavesEither may_leave files entries old d (applied d r))
+  Notes old new d r = HasLeft moment left_since old new (LeavesEither may_leave files entries old d (applied d r))
 
   pub fail_went : (old new : D) (list : Option (List RunnerEntry)) (p : SessionState) (d : Device) (k : ℕ) (s : Step) (e : Exit) (n : List ℕ)
       (world : Components) (told : Told) (living : List ℕ) → p.device ≡ d → HasFailed p k s e world told living

@@ -12,7 +12,7 @@ use Rattle.histories.specs.TraceEvents.{TraceEvent, records_of}
 use Rattle.histories.specs.States.{SessionState, state_after}
 use Rattle.histories.proofs.Joined.{left-append}
 use Rattle.session_boots.specs.Lines.{lines_of}
-use Rattle.session_boots.proofs.Told.{nothing_told}
+use Rattle.session_boots.proofs.Told.{nothing_printed}
 use Rattle.session_startup.specs.Did.{ActLeft}
 use Rattle.session_startup.specs.Runs.{IsReadyToWait, MayAbort, HasNoActLeft, IsInTurn}
 
@@ -42,7 +42,7 @@ sits q d world told living settled r is f = record {
 
 -- a part without records prints nothing
 pub no_lines : (a : Option (List ℕ)) (d : Device) (h : List TraceEvent) → records_of h ≡ [] → Appends a a (lines_of d (records_of h))
-no_lines a d h none = nothing_told a (lines_of d (records_of h)) (ap (λ (l : List Record). lines_of d l) none)
+no_lines a d h none = nothing_printed a (lines_of d (records_of h)) (ap (λ (l : List Record). lines_of d l) none)
 
 -- ---- giving up
 

@@ -14,9 +14,9 @@ use Rattle.histories.specs.TraceEvents.{TraceEvent}
 use Rattle.histories.specs.States.{SessionState, is_wait, leaves, ran, state_after}
 use Rattle.histories.specs.Waits.{MayWait, comes_up, has_work, wait_limit}
 use Rattle.histories.specs.Follows.{MayRun}
-use Rattle.histories.specs.Courses.{Stands}
-use Rattle.session_boots.specs.Traces.{Acts}
-use Rattle.law_supervisor.specs.Keeps.{Keeps}
+use Rattle.histories.specs.Courses.{IsStateOf}
+use Rattle.session_boots.specs.Traces.{ActTrace}
+use Rattle.law_supervisor.specs.Keeps.{IsSupervised}
 use Rattle.session_acts.specs.Runs as turn
 use Rattle.session_acts.specs.Waits as waits
 use Rattle.session_acts.specs.Waits.{WaitsOnce}
@@ -61,15 +61,15 @@ ready p world told living limit now s moment is = record { runs = turn_of s.runs
 
 -- ---- what it leaves
 
-ended_keeps : Laws → (p : SessionState) (s : Seen) (k : ℕ) (t : Step) → MayRun (duty_of p.device) p s k t → is_wait s ≡ true → Keeps p.device p.world →
-    Keeps p.device (ran s k t p.world)
+ended_keeps : Laws → (p : SessionState) (s : Seen) (k : ℕ) (t : Step) → MayRun (duty_of p.device) p s k t → is_wait s ≡ true → IsSupervised p.device p.world →
+    IsSupervised p.device (ran s k t p.world)
 ended_keeps laws p (seen.Started n c) k t may is keeps = absurd cc
 ended_keeps laws p (seen.Refused c) k t may is keeps = absurd cc
 ended_keeps laws p (seen.Killed n) k t may is keeps = absurd cc
 ended_keeps laws p (seen.Exists x found) k t may is keeps = absurd cc
 ended_keeps laws p (seen.OnPath x found) k t may is keeps = absurd cc
 ended_keeps laws p (seen.Ended n e limit) k t may is keeps =
-    laws.keeps_ended p.device n e p.world (subst (λ (o : Option (ℕ × Step)). IsSome o) (sym may.1) cc) may.0.quiet.told keeps
+    laws.keeps_ended p.device n e p.world (subst (λ (o : Option (ℕ × Step)). IsSome o) (sym may.1) cc) may.0.quiet.owes_none keeps
 ended_keeps laws p (seen.Elapsed limit) k t may is keeps = absurd may
 
 wait_kept : Laws → IsKeptByWait InStage
@@ -81,16 +81,16 @@ wait_kept laws = record {
   ended = λ p e k t may is s. record { on = on_ran p e k t s.on; keeps = ended_keeps laws p e.seen k t may is s.keeps };
 }
 
-pub wait_left : Laws → (p : SessionState) (d : Device) → p.device ≡ d → IsOn p → Keeps p.device p.world → {old new : Option (List RunnerEntry)}
+pub wait_left : Laws → (p : SessionState) (d : Device) → p.device ≡ d → IsOn p → IsSupervised p.device p.world → {old new : Option (List RunnerEntry)}
     {world : Components}
     {told : Told} {living : List ℕ} → ((e : TraceEvent) × WaitsOnce p e old new × turn.IsAtTurnStart (leaves p e) p.device world told living) →
-    (h : List TraceEvent) × Acts p h old new × IsAtTurnStart (state_after p h) d world told living
+    (h : List TraceEvent) × ActTrace p h old new × IsAtTurnStart (state_after p h) d world told living
 wait_left laws p d is on keeps {world = world} {told = told} {living = living} x =
     let s = kept_by_wait InStage (wait_kept laws) p x.0 x.1.acts.proper.0 x.1.wait (record { on = on; keeps = keeps }) in (
       x.0 ∷ [],
       x.1.acts,
       record {
-        stands = subst (λ (e : Device). Stands (leaves p x.0) e world told living) is x.2.stands;
+        stands = subst (λ (e : Device). IsStateOf (leaves p x.0) e world told living) is x.2.stands;
         on = s.on;
         keeps = s.keeps;
         probed = wait_unprobed p x.0 x.1.wait;

@@ -14,7 +14,7 @@ use Rattle.histories.specs.Phases.{Generation, current, duty_of}
 use Rattle.histories.specs.TraceEvents.{TraceEvent, Recorded}
 use Rattle.histories.specs.States.{SessionState}
 use Rattle.histories.specs.Waits.{has_three}
-use Rattle.histories.specs.Courses.{IsBack, Stands}
+use Rattle.histories.specs.Courses.{IsBack, IsStateOf}
 use Rattle.session_boots.specs.Same.{IsSameDeployment}
 use Rattle.session_startup.specs.Runs.{IsAtTurnStart}
 use Rattle.session_startup.specs.declared.activating.Activated.{Activated}
@@ -22,7 +22,7 @@ use Rattle.session_startup.specs.declared.activating.Activated.TheVariants as ac
 
 -- the last of the records is that the deployment closed so
 abbrev pub ClosesAs : Outcome → List Record → Type 0
-ClosesAs outcome records = (front : List Record) × (records ≡ front ++ Closed outcome ∷ [])
+ClosesAs outcome records = (prefix : List Record) × (records ≡ prefix ++ Closed outcome ∷ [])
 
 -- the last that happened is that it closed so
 abbrev pub ClosesLast : Outcome → List TraceEvent → Type 0
@@ -32,7 +32,7 @@ ClosesLast outcome h = (before : List TraceEvent) × (h ≡ Recorded (Closed out
 -- ones that are all stopped.
 pub record HasClosed (outcome : Outcome) (generation : Generation) (h : List TraceEvent) (q : SessionState) (d : Device) (world : Components) (told : Told)
     (living : List ℕ) : Type 0 where
-  pub stands : Stands q d world told living
+  pub stands : IsStateOf q d world told living
   pub back : IsBack q
   pub generation_is : q.generation ≡ generation
   pub quiet : IsQuiet q.world

@@ -8,13 +8,13 @@ use Rattle.components.specs.Components.{Components, owner}
 use Rattle.components.specs.Turns.{IsQuiet}
 use Rattle.components.specs.Acts.{OwesAt}
 use Rattle.components.specs.Answers.{has_answered, living_numbers}
-use Rattle.components.specs.Events.{told_at}
+use Rattle.components.specs.Events.{heard_at}
 use Rattle.histories.specs.Phases.{Phase, idle, booting, activating, backing, rolling, duty_of, current}
 use Rattle.histories.specs.States.{SessionState}
 use Rattle.histories.specs.Waits.{comes_up, has_three}
-use Rattle.histories.specs.Courses.{Stands}
-use Rattle.law_supervisor.specs.Keeps.{Keeps}
-use Rattle.law_supervisor.specs.Sound.{Differ}
+use Rattle.histories.specs.Courses.{IsStateOf}
+use Rattle.law_supervisor.specs.Keeps.{IsSupervised}
+use Rattle.law_supervisor.specs.Sound.{AreDistinct}
 
 -- items come up
 abbrev pub rises : Phase → Bool
@@ -33,24 +33,24 @@ pub record IsOn (p : SessionState) : Type 0 where
   pub over : p.over ≡ false
   pub cut : p.cut ≡ false
 
--- At a turn's front: the supervisor may not know of the last moment yet.
+-- At a turn's start: the supervisor may not know of the last moment yet.
 pub record IsAtTurnStart (p : SessionState) (d : Device) (world : Components) (told : Told) (living : List ℕ) : Type 0 where
-  pub stands : Stands p d world told living
+  pub stands : IsStateOf p d world told living
   pub on : IsOn p
-  pub keeps : Keeps p.device p.world
+  pub keeps : IsSupervised p.device p.world
   pub probed : p.probed ≡ false
 
 -- Within a turn: the moment of the components is the runner's, and it was asked for where one is due.
 pub record IsWithin (p : SessionState) (told : Told) (living : List ℕ) : Type 0 where
   pub on : IsOn p
-  pub keeps : Keeps p.device p.world
+  pub keeps : IsSupervised p.device p.world
   pub answered : has_answered p.world ≡ true
   pub moment : told.moment ≡ p.world.moment
   pub asked : told.asked ≡ p.fresh
   pub due : p.due ≡ true → p.fresh ≡ true
   pub children : (n : ℕ) → Contains living n ↔ IsSome (owner n p.world.parts)
 
--- the supervisor's components are those of the place
+-- the supervisor's components are those of the state
 pub record IsInTurn (p : SessionState) (world : Components) (told : Told) (living : List ℕ) : Type 0 where
   pub within : IsWithin p told living
   pub probed : p.probed ≡ false
@@ -61,7 +61,7 @@ pub record HasFailed (p : SessionState) (k : ℕ) (s : Step) (e : Exit) (world :
   pub within : IsWithin p told living
   pub breaks : Bool
   pub owes : OwesAt p.world k s e breaks
-  pub world_is : world ≡ told_at k p.world
+  pub world_is : world ≡ heard_at k p.world
 
 -- no act is left, and there is something to wait for
 pub record IsReadyToWait (p : SessionState) (world : Components) (told : Told) (living : List ℕ) : Type 0 where
@@ -85,6 +85,6 @@ pub record MayAbort (p : SessionState) (world : Components) (told : Told) (livin
   pub boot_end : p.boot_end ≡ None
   pub over : p.over ≡ false
   pub cut : p.cut ≡ false
-  pub differ : Differ (living_numbers p.world.parts)
+  pub differ : AreDistinct (living_numbers p.world.parts)
   pub owners : (n : ℕ) → owner n world.parts ≡ owner n p.world.parts
   pub children : (n : ℕ) → Contains living n ↔ IsSome (owner n p.world.parts)

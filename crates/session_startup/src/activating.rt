@@ -3,10 +3,10 @@ ghost use Rattle.std.specs.Prelude.{◌≡◌, IfOk, IsErrOf};
 ghost use Rattle.nuc_base.specs.Faults.{Rose};
 ghost use Rattle.deploy_state.specs.States.{OwnsActivating, activating_device};
 ghost use Rattle.histories.specs.States.{SessionState};
-ghost use Rattle.law_termination.specs.Drives.{Drives};
+ghost use Rattle.law_termination.specs.Drives.{AreDriven};
 ghost use Rattle.session_startup.specs.Ended.{ActivatedLeft, ActivatedSame, OwnsActivated};
 ghost use Rattle.session_startup.specs.Runs.{IsAtTurnStart, MayAbort};
-ghost use Rattle.deploy_state.specs.Objects.{Holds, KeepsOthers};
+ghost use Rattle.deploy_state.specs.Objects.{OwnsOver, KeepsOthers};
 ghost use Rattle.session_boots.specs.Stages.{AsTold, HasTrace};
 
 use crate::closing::close_plan;
@@ -38,15 +38,15 @@ pub fn activate<D: Disk, J: Journal + Drop, K: Sink, R: Runner, S: Supervise>(
     runner: &mut R,
     supervisor: &mut S,
 ) -> Result<Activated<J>, SessionFault>
-    requires held { Holds D.Disk J.Journal OwnsActivating state disk.old }
-    requires drives { Drives (S.world supervisor.old) }
-    requires placed { (p : SessionState) × AsTold R.Runner runner.old (IsAtTurnStart p (activating_device state) (S.world supervisor.old)) }
+    requires held { OwnsOver D.Disk J.Journal OwnsActivating state disk.old }
+    requires drives { AreDriven (S.world supervisor.old) }
+    requires from_state { (p : SessionState) × AsTold R.Runner runner.old (IsAtTurnStart p (activating_device state) (S.world supervisor.old)) }
     ensures trace { (p : SessionState) → AsTold R.Runner runner.old (IsAtTurnStart p (activating_device state) (S.world supervisor.old)) →
         HasTrace D.Disk J.Journal K.Sink R.Runner disk.old disk.new sink.old sink.new runner.old runner.new p
         (λ x h q. AsTold R.Runner runner.new (ActivatedLeft x h q (S.world supervisor.new)))
         (λ q. AsTold R.Runner runner.new (MayAbort q (S.world supervisor.new))) result }
-    ensures drives { Drives (S.world supervisor.new) }
-    ensures held { IfOk result (λ x. Holds D.Disk J.Journal OwnsActivated x disk.new) }
+    ensures drives { AreDriven (S.world supervisor.new) }
+    ensures held { IfOk result (λ x. OwnsOver D.Disk J.Journal OwnsActivated x disk.new) }
     ensures same { IfOk result (λ x. ActivatedSame (activating_device state) x) }
     ensures others { KeepsOthers D.Disk J.Journal disk.old disk.new }
     ensures disk { IsErrOf result SessionFault.Disk → Rose (D.faults disk.old) (D.faults disk.new) }

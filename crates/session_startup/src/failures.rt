@@ -1,17 +1,17 @@
 // The record of a failure, and its line.
 ghost use Rattle.std.specs.Prelude.{◌≡◌, ◌≤◌, ℕ, List, IfOk, IsErrOf, OnErr, OnOk, IsSome};
 ghost use Rattle.nuc_base.specs.Faults.{HasCause, Rose};
-ghost use Rattle.edges.specs.Pieces.{Writes};
+ghost use Rattle.edges.specs.Pieces.{WriteOutcome};
 ghost use Rattle.records.specs.Stored.{StepFailed};
 ghost use Rattle.step_runner.specs.Entries.{Told};
 ghost use Rattle.histories.specs.TraceEvents.{TraceEvent, records_of};
 ghost use Rattle.histories.specs.States.{SessionState, state_after};
 ghost use Rattle.session_boots.specs.Lines.{line_of};
-ghost use Rattle.session_boots.specs.Ends.{Lines};
+ghost use Rattle.session_boots.specs.Ends.{HasLines};
 ghost use Rattle.session_boots.specs.Same.{IsSameDeployment};
 ghost use Rattle.session_startup.specs.Coming.{OwnsComing, coming_device, is_plan};
 ghost use Rattle.session_startup.specs.Runs.{HasFailed, MayAbort, IsInTurn};
-ghost use Rattle.deploy_state.specs.Objects.{Holds, KeepsOthers};
+ghost use Rattle.deploy_state.specs.Objects.{OwnsOver, KeepsOthers};
 ghost use Rattle.session_boots.specs.Stages.{IsTraceOver, LeftOver};
 
 use crate::coming::Coming;
@@ -33,7 +33,7 @@ fn tell_failed<J: Journal + Drop, K: Sink>(
     exit: Exit,
 ) -> Result<(), EdgeFault>
     requires { IsSome (coming_device state.now).pending }
-    ensures line { Writes (K.held sink.old) (K.held sink.new) (line_of (coming_device state.now) (StepFailed name.now step exit)) result }
+    ensures line { WriteOutcome (K.held sink.old) (K.held sink.new) (line_of (coming_device state.now) (StepFailed name.now step exit)) result }
     ensures cause { HasCause (K.faults sink.old) (K.faults sink.new) result }
     ensures quiet { OnOk result (K.faults sink.new ≡ K.faults sink.old) }
 {
@@ -53,16 +53,16 @@ pub(crate) fn note_failure<D: Disk, J: Journal + Drop, K: Sink, S: Supervise>(
     step: Step,
     exit: Exit,
 ) -> Result<Coming<J>, SessionFault>
-    requires held { Holds D.Disk J.Journal OwnsComing state disk.old }
-    requires placed { (p : SessionState) × (told : Told) × (living : List ℕ) × HasFailed p who step exit (S.world supervisor.now) told living ×
+    requires held { OwnsOver D.Disk J.Journal OwnsComing state disk.old }
+    requires from_state { (p : SessionState) × (told : Told) × (living : List ℕ) × HasFailed p who step exit (S.world supervisor.now) told living ×
         (p.device ≡ coming_device state) }
     ensures trace { (p : SessionState) → (told : Told) → (living : List ℕ) → HasFailed p who step exit (S.world supervisor.now) told living →
         (p.device ≡ coming_device state) →
         (h : List TraceEvent) × IsTraceOver D.Disk J.Journal disk.old disk.new told.list told.list p h
-        × Lines (K.held sink.old) (K.held sink.new) p.device (records_of h) result
+        × HasLines (K.held sink.old) (K.held sink.new) p.device (records_of h) result
         × LeftOver D.Disk J.Journal disk.new p h (λ s q. IsInTurn q (S.world supervisor.now) told living × (q.device ≡ coming_device s)) result
         × OnErr result (MayAbort (state_after p h) (S.world supervisor.now) told living) }
-    ensures held { IfOk result (λ s. Holds D.Disk J.Journal OwnsComing s disk.new) }
+    ensures held { IfOk result (λ s. OwnsOver D.Disk J.Journal OwnsComing s disk.new) }
     ensures same { IfOk result (λ s. is_plan s ≡ is_plan state) }
     ensures deployment { IfOk result (λ s. IsSameDeployment (coming_device state) (coming_device s)) }
     ensures others { KeepsOthers D.Disk J.Journal disk.old disk.new }

@@ -2,7 +2,7 @@
 ghost use Rattle.std.specs.Prelude.{◌≡◌, ◌++◌, ◌∷◌, [], ℕ, List, OnOk, codes};
 ghost use Rattle.nuc_base.specs.Faults.{HasCause};
 ghost use Rattle.nuc_base.specs.declared.kinds.Outcome.{Outcome as Outcomes};
-ghost use Rattle.edges.specs.Pieces.{Writes};
+ghost use Rattle.edges.specs.Pieces.{WriteOutcome};
 ghost use Rattle.device.specs.Devices.{device_view};
 ghost use Rattle.status_text.specs.Words.{outcome_text};
 ghost use Rattle.session_boots.specs.Lines.{closed_line, exit_text, failed_line, step_text};
@@ -29,7 +29,7 @@ fn step_word(step: Step) -> &'static str
 
 /// Prints which step ended, and how.
 fn tell_end<K: Sink>(sink: &mut K, step: Step, exit: Exit) -> Result<(), EdgeFault>
-    ensures line { Writes (K.held sink.old) (K.held sink.new) (step_text step ++ codes " " ++ exit_text exit ++ codes "\n") result }
+    ensures line { WriteOutcome (K.held sink.old) (K.held sink.new) (step_text step ++ codes " " ++ exit_text exit ++ codes "\n") result }
     ensures cause { HasCause (K.faults sink.old) (K.faults sink.new) result }
     ensures quiet { OnOk result (K.faults sink.new ≡ K.faults sink.old) }
 {
@@ -45,7 +45,7 @@ pub(crate) fn tell_failed_step<K: Sink>(
     step: Step,
     exit: Exit,
 ) -> Result<(), EdgeFault>
-    ensures line { Writes (K.held sink.old) (K.held sink.new) (failed_line id.now name.now step exit) result }
+    ensures line { WriteOutcome (K.held sink.old) (K.held sink.new) (failed_line id.now name.now step exit) result }
     ensures cause { HasCause (K.faults sink.old) (K.faults sink.new) result }
     ensures quiet { OnOk result (K.faults sink.new ≡ K.faults sink.old) }
 {
@@ -55,7 +55,7 @@ pub(crate) fn tell_failed_step<K: Sink>(
 
 /// Prints how a deployment closed, and the line's end.
 fn tell_outcome<K: Sink>(sink: &mut K, outcome: Outcome) -> Result<(), EdgeFault>
-    ensures line { Writes (K.held sink.old) (K.held sink.new) (outcome_text outcome ++ codes "\n") result }
+    ensures line { WriteOutcome (K.held sink.old) (K.held sink.new) (outcome_text outcome ++ codes "\n") result }
     ensures cause { HasCause (K.faults sink.old) (K.faults sink.new) result }
     ensures quiet { OnOk result (K.faults sink.new ≡ K.faults sink.old) }
 {
@@ -64,7 +64,7 @@ fn tell_outcome<K: Sink>(sink: &mut K, outcome: Outcome) -> Result<(), EdgeFault
 
 /// Prints that the deployment of this id closed so.
 fn tell_closed<K: Sink>(sink: &mut K, id: &Label, outcome: Outcome) -> Result<(), EdgeFault>
-    ensures line { Writes (K.held sink.old) (K.held sink.new) (closed_line id.now outcome) result }
+    ensures line { WriteOutcome (K.held sink.old) (K.held sink.new) (closed_line id.now outcome) result }
     ensures cause { HasCause (K.faults sink.old) (K.faults sink.new) result }
     ensures quiet { OnOk result (K.faults sink.new ≡ K.faults sink.old) }
 {
@@ -75,7 +75,7 @@ fn tell_closed<K: Sink>(sink: &mut K, id: &Label, outcome: Outcome) -> Result<()
 /// Prints how the deployment closed that closed last.
 pub(crate) fn tell_close<K: Sink>(sink: &mut K, device: &Device) -> Result<(), EdgeFault>
     ensures line { (closed : List (List ℕ × Outcomes)) → (id : List ℕ) → (outcome : Outcomes) → (device_view device.now).closed ≡ closed ++ (id, outcome) ∷ [] →
-        Writes (K.held sink.old) (K.held sink.new) (closed_line id outcome) result }
+        WriteOutcome (K.held sink.old) (K.held sink.new) (closed_line id outcome) result }
     ensures cause { HasCause (K.faults sink.old) (K.faults sink.new) result }
     ensures quiet { OnOk result (K.faults sink.new ≡ K.faults sink.old) }
 {

@@ -4,10 +4,10 @@ ghost use Rattle.nuc_base.specs.Faults.{Rose};
 ghost use Rattle.deploy_state.specs.States.{OwnsIdle, OwnsRolling, idle_device, rolling_device};
 ghost use Rattle.histories.specs.Phases.{current};
 ghost use Rattle.histories.specs.States.{SessionState};
-ghost use Rattle.law_termination.specs.Drives.{Drives};
+ghost use Rattle.law_termination.specs.Drives.{AreDriven};
 ghost use Rattle.session_startup.specs.Ended.{HasClosed};
 ghost use Rattle.session_startup.specs.Runs.{IsAtTurnStart, MayAbort};
-ghost use Rattle.deploy_state.specs.Objects.{Holds, KeepsOthers};
+ghost use Rattle.deploy_state.specs.Objects.{OwnsOver, KeepsOthers};
 ghost use Rattle.session_boots.specs.Stages.{AsTold, HasTrace};
 
 use crate::closing::close_set;
@@ -32,15 +32,15 @@ pub fn roll<D: Disk, J: Journal + Drop, K: Sink, R: Runner, S: Supervise>(
     runner: &mut R,
     supervisor: &mut S,
 ) -> Result<(Idle<J>, Outcome), SessionFault>
-    requires held { Holds D.Disk J.Journal OwnsRolling state disk.old }
-    requires drives { Drives (S.world supervisor.old) }
-    requires placed { (p : SessionState) × AsTold R.Runner runner.old (IsAtTurnStart p (rolling_device state) (S.world supervisor.old)) }
+    requires held { OwnsOver D.Disk J.Journal OwnsRolling state disk.old }
+    requires drives { AreDriven (S.world supervisor.old) }
+    requires from_state { (p : SessionState) × AsTold R.Runner runner.old (IsAtTurnStart p (rolling_device state) (S.world supervisor.old)) }
     ensures trace { (p : SessionState) → AsTold R.Runner runner.old (IsAtTurnStart p (rolling_device state) (S.world supervisor.old)) →
         HasTrace D.Disk J.Journal K.Sink R.Runner disk.old disk.new sink.old sink.new runner.old runner.new p
         (λ x h q. AsTold R.Runner runner.new (HasClosed x.1 current h q (idle_device x.0) (S.world supervisor.new)))
         (λ q. AsTold R.Runner runner.new (MayAbort q (S.world supervisor.new))) result }
-    ensures drives { Drives (S.world supervisor.new) }
-    ensures held { IfOk result (λ x. Holds D.Disk J.Journal OwnsIdle x.0 disk.new) }
+    ensures drives { AreDriven (S.world supervisor.new) }
+    ensures held { IfOk result (λ x. OwnsOver D.Disk J.Journal OwnsIdle x.0 disk.new) }
     ensures others { KeepsOthers D.Disk J.Journal disk.old disk.new }
     ensures disk { IsErrOf result SessionFault.Disk → Rose (D.faults disk.old) (D.faults disk.new) }
     ensures edge { IsErrOf result SessionFault.Output → Rose (K.faults sink.old) (K.faults sink.new) }

@@ -5,12 +5,12 @@ ghost use Rattle.histories.specs.States.{SessionState};
 ghost use Rattle.session_boots.specs.Same.{IsSameDeployment};
 ghost use Rattle.components.specs.Events.{later};
 ghost use Rattle.law_termination.specs.Rank.{measure};
-ghost use Rattle.law_termination.specs.Drives.{Drives, Falls, NotAbove};
+ghost use Rattle.law_termination.specs.Drives.{AreDriven, HasFewerLoops, NotAbove};
 ghost use Rattle.session_startup.specs.Coming.{OwnsComing, coming_device, is_plan};
 ghost use Rattle.session_startup.specs.Did.{ActLeft};
 ghost use Rattle.session_startup.specs.Runs.{IsAtTurnStart, MayAbort, IsInTurn};
 ghost use Rattle.session_startup.specs.Turns.{TurnLeft};
-ghost use Rattle.deploy_state.specs.Objects.{Holds, KeepsOthers};
+ghost use Rattle.deploy_state.specs.Objects.{OwnsOver, KeepsOthers};
 ghost use Rattle.session_boots.specs.Stages.{AsTold, HasTrace};
 
 use crate::coming::Coming;
@@ -44,15 +44,15 @@ fn take_act<D: Disk, J: Journal + Drop, K: Sink, R: Runner, S: Supervise>(
     now: u64,
 ) -> Result<(Coming<J>, bool), SessionFault>
     requires now { (R.told runner.old ≡ now) × (now < 2 ^ 62) }
-    requires held { Holds D.Disk J.Journal OwnsComing state disk.old }
-    requires drives { Drives (S.world supervisor.old) }
-    requires placed { (p : SessionState) × AsTold R.Runner runner.old (IsInTurn p (S.world supervisor.old)) × (p.device ≡ coming_device state) }
+    requires held { OwnsOver D.Disk J.Journal OwnsComing state disk.old }
+    requires drives { AreDriven (S.world supervisor.old) }
+    requires from_state { (p : SessionState) × AsTold R.Runner runner.old (IsInTurn p (S.world supervisor.old)) × (p.device ≡ coming_device state) }
     ensures now { R.told runner.new ≡ now }
     ensures trace { (p : SessionState) → AsTold R.Runner runner.old (IsInTurn p (S.world supervisor.old)) → (p.device ≡ coming_device state) →
         HasTrace D.Disk J.Journal K.Sink R.Runner disk.old disk.new sink.old sink.new runner.old runner.new p
         (λ s h q. AsTold R.Runner runner.new (ActLeft q (coming_device s.0) s.1 (S.world supervisor.new)))
         (λ q. AsTold R.Runner runner.new (MayAbort q (S.world supervisor.new))) result }
-    ensures held { IfOk result (λ s. Holds D.Disk J.Journal OwnsComing s.0 disk.new) }
+    ensures held { IfOk result (λ s. OwnsOver D.Disk J.Journal OwnsComing s.0 disk.new) }
     ensures same { IfOk result (λ s. is_plan s.0 ≡ is_plan state) }
     ensures deployment { IfOk result (λ s. IsSameDeployment (coming_device state) (coming_device s.0)) }
     ensures others { KeepsOthers D.Disk J.Journal disk.old disk.new }
@@ -61,7 +61,7 @@ fn take_act<D: Disk, J: Journal + Drop, K: Sink, R: Runner, S: Supervise>(
     ensures quiet_disk { ¬ (IsErrOf result SessionFault.Disk) → D.faults disk.new ≡ D.faults disk.old }
     ensures quiet_sink { ¬ (IsErrOf result SessionFault.Output) → K.faults sink.new ≡ K.faults sink.old }
     ensures not_above { NotAbove (S.world supervisor.old) (S.world supervisor.new) }
-    ensures falls { IfOk result (λ s. s.1 ≡ false → Falls (S.world supervisor.old) (S.world supervisor.new)) }
+    ensures falls { IfOk result (λ s. s.1 ≡ false → HasFewerLoops (S.world supervisor.old) (S.world supervisor.new)) }
     ensures later { (D.faults disk.old ≤ D.faults disk.new) × (K.faults sink.old ≤ K.faults sink.new) }
 {
     driving_laws();
@@ -87,15 +87,15 @@ fn take_acts<D: Disk, J: Journal + Drop, K: Sink, R: Runner, S: Supervise>(
     now: u64,
 ) -> Result<Coming<J>, SessionFault>
     requires now { (R.told runner.old ≡ now) × (now < 2 ^ 62) }
-    requires held { Holds D.Disk J.Journal OwnsComing state disk.old }
-    requires drives { Drives (S.world supervisor.old) }
-    requires placed { (p : SessionState) × AsTold R.Runner runner.old (IsInTurn p (S.world supervisor.old)) × (p.device ≡ coming_device state) }
+    requires held { OwnsOver D.Disk J.Journal OwnsComing state disk.old }
+    requires drives { AreDriven (S.world supervisor.old) }
+    requires from_state { (p : SessionState) × AsTold R.Runner runner.old (IsInTurn p (S.world supervisor.old)) × (p.device ≡ coming_device state) }
     ensures now { R.told runner.new ≡ now }
     ensures trace { (p : SessionState) → AsTold R.Runner runner.old (IsInTurn p (S.world supervisor.old)) → (p.device ≡ coming_device state) →
         HasTrace D.Disk J.Journal K.Sink R.Runner disk.old disk.new sink.old sink.new runner.old runner.new p
         (λ s h q. AsTold R.Runner runner.new (ActLeft q (coming_device s) true (S.world supervisor.new)))
         (λ q. AsTold R.Runner runner.new (MayAbort q (S.world supervisor.new))) result }
-    ensures held { IfOk result (λ s. Holds D.Disk J.Journal OwnsComing s disk.new) }
+    ensures held { IfOk result (λ s. OwnsOver D.Disk J.Journal OwnsComing s disk.new) }
     ensures same { IfOk result (λ s. is_plan s ≡ is_plan state) }
     ensures deployment { IfOk result (λ s. IsSameDeployment (coming_device state) (coming_device s)) }
     ensures others { KeepsOthers D.Disk J.Journal disk.old disk.new }
@@ -128,14 +128,14 @@ fn turn<D: Disk, J: Journal + Drop, K: Sink, R: Runner, S: Supervise>(
     runner: &mut R,
     supervisor: &mut S,
 ) -> Result<(Coming<J>, Option<Turned>), SessionFault>
-    requires held { Holds D.Disk J.Journal OwnsComing state disk.old }
-    requires drives { Drives (S.world supervisor.old) }
-    requires placed { (p : SessionState) × AsTold R.Runner runner.old (IsAtTurnStart p (coming_device state) (S.world supervisor.old)) }
+    requires held { OwnsOver D.Disk J.Journal OwnsComing state disk.old }
+    requires drives { AreDriven (S.world supervisor.old) }
+    requires from_state { (p : SessionState) × AsTold R.Runner runner.old (IsAtTurnStart p (coming_device state) (S.world supervisor.old)) }
     ensures trace { (p : SessionState) → AsTold R.Runner runner.old (IsAtTurnStart p (coming_device state) (S.world supervisor.old)) →
         HasTrace D.Disk J.Journal K.Sink R.Runner disk.old disk.new sink.old sink.new runner.old runner.new p
         (λ s h q. AsTold R.Runner runner.new (TurnLeft s.1 q (coming_device s.0) (S.world supervisor.new)))
         (λ q. AsTold R.Runner runner.new (MayAbort q (S.world supervisor.new))) result }
-    ensures held { IfOk result (λ s. Holds D.Disk J.Journal OwnsComing s.0 disk.new) }
+    ensures held { IfOk result (λ s. OwnsOver D.Disk J.Journal OwnsComing s.0 disk.new) }
     ensures same { IfOk result (λ s. is_plan s.0 ≡ is_plan state) }
     ensures deployment { IfOk result (λ s. IsSameDeployment (coming_device state) (coming_device s.0)) }
     ensures others { KeepsOthers D.Disk J.Journal disk.old disk.new }
@@ -143,7 +143,7 @@ fn turn<D: Disk, J: Journal + Drop, K: Sink, R: Runner, S: Supervise>(
     ensures edge { IsErrOf result SessionFault.Output → Rose (K.faults sink.old) (K.faults sink.new) }
     ensures quiet_disk { ¬ (IsErrOf result SessionFault.Disk) → D.faults disk.new ≡ D.faults disk.old }
     ensures quiet_sink { ¬ (IsErrOf result SessionFault.Output) → K.faults sink.new ≡ K.faults sink.old }
-    ensures drives { Drives (S.world supervisor.new) }
+    ensures drives { AreDriven (S.world supervisor.new) }
     ensures falls { IfOk result (λ s. s.1 ≡ None → measure (later (R.clock runner.new) (S.world supervisor.new)) < measure
         (later (R.clock runner.old) (S.world supervisor.old))) }
     ensures later { (D.faults disk.old ≤ D.faults disk.new) × (K.faults sink.old ≤ K.faults sink.new) }
@@ -173,14 +173,14 @@ pub(crate) fn come_up<D: Disk, J: Journal + Drop, K: Sink, R: Runner, S: Supervi
     runner: &mut R,
     supervisor: &mut S,
 ) -> Result<(Coming<J>, Turned), SessionFault>
-    requires held { Holds D.Disk J.Journal OwnsComing state disk.old }
-    requires drives { Drives (S.world supervisor.old) }
-    requires placed { (p : SessionState) × AsTold R.Runner runner.old (IsAtTurnStart p (coming_device state) (S.world supervisor.old)) }
+    requires held { OwnsOver D.Disk J.Journal OwnsComing state disk.old }
+    requires drives { AreDriven (S.world supervisor.old) }
+    requires from_state { (p : SessionState) × AsTold R.Runner runner.old (IsAtTurnStart p (coming_device state) (S.world supervisor.old)) }
     ensures trace { (p : SessionState) → AsTold R.Runner runner.old (IsAtTurnStart p (coming_device state) (S.world supervisor.old)) →
         HasTrace D.Disk J.Journal K.Sink R.Runner disk.old disk.new sink.old sink.new runner.old runner.new p
         (λ s h q. AsTold R.Runner runner.new (TurnLeft (Some s.1) q (coming_device s.0) (S.world supervisor.new)))
         (λ q. AsTold R.Runner runner.new (MayAbort q (S.world supervisor.new))) result }
-    ensures held { IfOk result (λ s. Holds D.Disk J.Journal OwnsComing s.0 disk.new) }
+    ensures held { IfOk result (λ s. OwnsOver D.Disk J.Journal OwnsComing s.0 disk.new) }
     ensures same { IfOk result (λ s. is_plan s.0 ≡ is_plan state) }
     ensures deployment { IfOk result (λ s. IsSameDeployment (coming_device state) (coming_device s.0)) }
     ensures others { KeepsOthers D.Disk J.Journal disk.old disk.new }
@@ -188,7 +188,7 @@ pub(crate) fn come_up<D: Disk, J: Journal + Drop, K: Sink, R: Runner, S: Supervi
     ensures edge { IsErrOf result SessionFault.Output → Rose (K.faults sink.old) (K.faults sink.new) }
     ensures quiet_disk { ¬ (IsErrOf result SessionFault.Disk) → D.faults disk.new ≡ D.faults disk.old }
     ensures quiet_sink { ¬ (IsErrOf result SessionFault.Output) → K.faults sink.new ≡ K.faults sink.old }
-    ensures drives { Drives (S.world supervisor.new) }
+    ensures drives { AreDriven (S.world supervisor.new) }
     ensures later { (D.faults disk.old ≤ D.faults disk.new) × (K.faults sink.old ≤ K.faults sink.new) }
 {
     let mut state = state;

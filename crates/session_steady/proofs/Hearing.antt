@@ -8,12 +8,12 @@ use Rattle.step_runner.specs.Entries.{Told}
 use Rattle.step_runner.specs.declared.entries.RunnerEntry.{RunnerEntry}
 use Rattle.components.specs.Acts.{OwesAt}
 use Rattle.components.specs.Components.{At, ComponentState, Components, component_name, is_broken, place_of}
-use Rattle.components.specs.Events.{told_at}
+use Rattle.components.specs.Events.{heard_at}
 use Rattle.components.specs.Turns.{owes}
 use Rattle.histories.specs.Phases.{duty_of, is_idle}
 use Rattle.histories.specs.TraceEvents.{Heard}
 use Rattle.histories.specs.States.{SessionState, leaves}
-use Rattle.session_boots.specs.Traces.{Acts}
+use Rattle.session_boots.specs.Traces.{ActTrace}
 use Rattle.session_boots.proofs.Acting.{grows_none}
 use Rattle.session_acts.proofs.Answered.{free_is, free_told, is_free}
 use Rattle.session_acts.proofs.Entering.{never}
@@ -31,7 +31,7 @@ owes_at w k s e b o = by (slice_get w.parts k) o
     by (Some p) h = ap (λ (y : Option (Step × Exit)). is_some y) h.0
 
 pub hear_acts : (p : SessionState) (k : ℕ) (s : Step) (e : Exit) (world : Components) (told : Told) (living : List ℕ) (list : Option (List RunnerEntry)) →
-    HasFailed p k s e world told living → is_idle (duty_of p.device).phase ≡ true → Acts p (Heard k ∷ []) list list
+    HasFailed p k s e world told living → is_idle (duty_of p.device).phase ≡ true → ActTrace p (Heard k ∷ []) list list
 hear_acts p k s e world told living list f idle =
     let on = f.within.on in
     record {
@@ -56,11 +56,11 @@ hear_runs laws p k s e world told living f =
       within = record {
         on = record { drives = w.on.drives; boot = w.on.boot; boot_end = w.on.boot_end; over = w.on.over; cut = w.on.cut };
         orderly = laws.keeps_told k p.world w.orderly;
-        answered = free_is (told_at k p.world) (free_told k p.world ∙ is_free p.world w.answered);
+        answered = free_is (heard_at k p.world) (free_told k p.world ∙ is_free p.world w.answered);
         moment = w.moment;
         asked = w.asked;
         due = w.due;
-        children = λ n. subst (λ (o : Option (ℕ × Step)). Contains living n ↔ IsSome o) (sym (laws.owner_told n k p.world)) (w.children n);
+        children = λ n. subst (λ (o : Option (ℕ × Step)). Contains living n ↔ IsSome o) (sym (laws.owner_heard n k p.world)) (w.children n);
       };
       probed = refl;
       world_is = f.world_is;

@@ -8,7 +8,7 @@ use Rattle.histories.specs.Phases.{Phase, idle, booting, activating, backing, ro
 use Rattle.histories.specs.TraceEvents.{Answer, is_document}
 use Rattle.histories.specs.States.{SessionState}
 use Rattle.histories.specs.Waits.{may_drive}
-use Rattle.histories.specs.Courses.{Stands}
+use Rattle.histories.specs.Courses.{IsStateOf}
 use Rattle.session_acts.specs.Runs.{IsAtTurnStart, IsDriving, IsInTurn}
 use Rattle.session_acts.proofs.Entering.{comes_of}
 use Rattle.session_steady.specs.Acting.{ActLeft}
@@ -56,9 +56,9 @@ steady_of p q s on a = record {
 pub done_of : (a b : Option Answer) → b ≡ a → IfSome a (λ x. is_document x ≡ true) → IfSome b (λ x. is_document x ≡ true)
 done_of a b is h = subst (λ (o : Option Answer). IfSome o (λ x. is_document x ≡ true)) (sym is) h
 
-pub stands_at : (q : SessionState) (e d : Device) (world : Components) (told : Told) (living : List ℕ) → Stands q e world told living → e ≡ d →
-    Stands q d world told living
-stands_at q e d world told living s is = subst (λ (x : Device). Stands q x world told living) is s
+pub stands_at : (q : SessionState) (e d : Device) (world : Components) (told : Told) (living : List ℕ) → IsStateOf q e world told living → e ≡ d →
+    IsStateOf q d world told living
+stands_at q e d world told living s is = subst (λ (x : Device). IsStateOf q x world told living) is s
 
 module _ (p : SessionState) (d : Device) (v : Components) (before : Told) (lived : List ℕ) (s : IsServing p d v before lived) where
   -- the moment was told, and nothing else

@@ -11,7 +11,7 @@ use Rattle.histories.specs.TraceEvents.{TraceEvent, Ran, Booted, WaitElapsed, Ki
 use Rattle.histories.specs.TraceEvents.{nothing}
 use Rattle.histories.specs.States.{SessionState, leaves, state_after}
 use Rattle.histories.specs.Waits.{MayWait, has_work, wait_limit}
-use Rattle.session_boots.specs.Traces.{Acts}
+use Rattle.session_boots.specs.Traces.{ActTrace}
 use Rattle.session_acts.specs.Runs.{IsAtTurnStart}
 use Rattle.session_acts.specs.Waits.{IsReadyToWait, IsWaitEvent, WaitsOnce}
 use Rattle.session_steady.specs.Runs.{IsSame}
@@ -80,7 +80,7 @@ waited_same p StopsAll is = absurd is
 pub wait_left : (p : SessionState) (d : Device) {v : Components} {before : Told} {lived : List ℕ} → IsWaiting p d v before lived →
     {old new : Option (List RunnerEntry)} {world : Components} {told : Told} {living : List ℕ} →
     ((e : TraceEvent) × WaitsOnce p e old new × IsAtTurnStart (leaves p e) p.device world told living) →
-    (h : List TraceEvent) × Acts p h old new × HasWaited p (state_after p h) h d world told living
+    (h : List TraceEvent) × ActTrace p h old new × HasWaited p (state_after p h) h d world told living
 wait_left p d s {world = world} {told = told} {living = living} x =
     let w = waited_same p x.0 x.1.wait in
     let q = leaves p x.0 in (

@@ -7,7 +7,7 @@ use Rattle.components.specs.Turns.{IsQuiet}
 use Rattle.histories.specs.Phases.{current, duty_of, is_idle}
 use Rattle.histories.specs.TraceEvents.{TraceEvent, Ran, WaitElapsed, is_document, nothing}
 use Rattle.histories.specs.States.{SessionState, is_wait}
-use Rattle.histories.specs.Courses.{Stands}
+use Rattle.histories.specs.Courses.{IsStateOf}
 use Rattle.law_supervisor.specs.Sound.{IsOrderly}
 use Rattle.session_acts.specs.Runs.{IsInTurn}
 use Rattle.session_steady.specs.Runs.{IsSame}
@@ -25,7 +25,7 @@ pub record IsSteady (p : SessionState) : Type 0 where
 
 -- Between two turns: what the inbox gave last was waited for, or was a document that was handled.
 pub record IsServing (p : SessionState) (d : Device) (world : Components) (told : Told) (living : List ℕ) : Type 0 where
-  pub stands : Stands p d world told living
+  pub stands : IsStateOf p d world told living
   pub steady : IsSteady p
   pub done : IfSome p.answer (λ a. is_document a ≡ true)
   pub orderly : IsOrderly p.world

@@ -4,12 +4,12 @@ ghost use Rattle.histories.specs.Phases.{duty_of, is_idle};
 ghost use Rattle.histories.specs.TraceEvents.{TraceEvent};
 ghost use Rattle.histories.specs.States.{SessionState, state_after};
 ghost use Rattle.session_boots.specs.Stages.{AsTold};
-ghost use Rattle.session_boots.specs.Traces.{Acts};
-ghost use Rattle.law_termination.specs.Drives.{Drives};
+ghost use Rattle.session_boots.specs.Traces.{ActTrace};
+ghost use Rattle.law_termination.specs.Drives.{AreDriven};
 ghost use Rattle.session_acts.specs.Runs.{IsInTurn};
 ghost use Rattle.session_steady.specs.Acting.{ActLeft};
 ghost use Rattle.session_steady.specs.Runs.{IsSince};
-ghost use Rattle.session_steady.specs.Stays.{Calms, IsNoWilder};
+ghost use Rattle.session_steady.specs.Stays.{IsCalmer, IsNoWilder};
 
 use components::Supervise;
 use session_acts::{Did, act, orderly_laws};
@@ -19,15 +19,15 @@ use step_runner::Runner;
 /// counts it, and tries again or breaks the component.
 fn take_act<R: Runner, S: Supervise>(runner: &mut R, supervisor: &mut S, now: u64) -> bool
     requires now { (R.told runner.old ≡ now) × (now + 1 < 2 ^ 62) }
-    requires drives { Drives (S.world supervisor.old) × ((S.world supervisor.old).steady ≡ true) }
-    requires placed { (p : SessionState) × AsTold R.Runner runner.old (IsInTurn p (S.world supervisor.old))
+    requires drives { AreDriven (S.world supervisor.old) × ((S.world supervisor.old).steady ≡ true) }
+    requires from_state { (p : SessionState) × AsTold R.Runner runner.old (IsInTurn p (S.world supervisor.old))
         × (is_idle (duty_of p.device).phase ≡ true) }
     ensures now { R.told runner.new ≡ now }
     ensures trace { (p : SessionState) → AsTold R.Runner runner.old (IsInTurn p (S.world supervisor.old)) → is_idle (duty_of p.device).phase ≡ true →
-        (h : List TraceEvent) × Acts p h (R.list runner.old) (R.list runner.new) × IsSince p (state_after p h)
+        (h : List TraceEvent) × ActTrace p h (R.list runner.old) (R.list runner.new) × IsSince p (state_after p h)
         × AsTold R.Runner runner.new (ActLeft (state_after p h) result (S.world supervisor.new)) }
     ensures no_wilder { IsNoWilder (S.world supervisor.old) (S.world supervisor.new) }
-    ensures calms { result ≡ false → Calms (S.world supervisor.old) (S.world supervisor.new) }
+    ensures calms { result ≡ false → IsCalmer (S.world supervisor.old) (S.world supervisor.new) }
 {
     orderly_laws();
     match act(runner, supervisor, now) {
@@ -40,12 +40,12 @@ fn take_act<R: Runner, S: Supervise>(runner: &mut R, supervisor: &mut S, now: u6
 /// Takes acts until none is left.
 pub(crate) fn take_acts<R: Runner, S: Supervise>(runner: &mut R, supervisor: &mut S, now: u64)
     requires now { (R.told runner.old ≡ now) × (now + 1 < 2 ^ 62) }
-    requires drives { Drives (S.world supervisor.old) × ((S.world supervisor.old).steady ≡ true) }
-    requires placed { (p : SessionState) × AsTold R.Runner runner.old (IsInTurn p (S.world supervisor.old))
+    requires drives { AreDriven (S.world supervisor.old) × ((S.world supervisor.old).steady ≡ true) }
+    requires from_state { (p : SessionState) × AsTold R.Runner runner.old (IsInTurn p (S.world supervisor.old))
         × (is_idle (duty_of p.device).phase ≡ true) }
     ensures now { R.told runner.new ≡ now }
     ensures trace { (p : SessionState) → AsTold R.Runner runner.old (IsInTurn p (S.world supervisor.old)) → is_idle (duty_of p.device).phase ≡ true →
-        (h : List TraceEvent) × Acts p h (R.list runner.old) (R.list runner.new) × IsSince p (state_after p h)
+        (h : List TraceEvent) × ActTrace p h (R.list runner.old) (R.list runner.new) × IsSince p (state_after p h)
         × AsTold R.Runner runner.new (ActLeft (state_after p h) true (S.world supervisor.new)) }
     ensures no_wilder { IsNoWilder (S.world supervisor.old) (S.world supervisor.new) }
 {

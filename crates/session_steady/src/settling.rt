@@ -4,10 +4,10 @@ ghost use Rattle.device.specs.Devices.{Device};
 ghost use Rattle.histories.specs.TraceEvents.{TraceEvent};
 ghost use Rattle.histories.specs.States.{SessionState, state_after};
 ghost use Rattle.session_boots.specs.Stages.{AsTold};
-ghost use Rattle.session_boots.specs.Traces.{Acts};
-ghost use Rattle.law_termination.specs.Drives.{Drives};
+ghost use Rattle.session_boots.specs.Traces.{ActTrace};
+ghost use Rattle.law_termination.specs.Drives.{AreDriven};
 ghost use Rattle.session_steady.specs.Serves.{IsServing, SettledLeft};
-ghost use Rattle.session_steady.specs.Stays.{Stays};
+ghost use Rattle.session_steady.specs.Stays.{IsKeptSteady};
 
 use crate::acts::take_acts;
 use components::Supervise;
@@ -29,14 +29,14 @@ fn is_last(now: u64) -> bool
 /// is tried again or breaks. Of that nothing is recorded and no line is written. Gives the moment. At the clock's end, where
 /// a step that has a limit is late as it starts and could be tried again for ever, no act is taken, and None is given.
 pub fn settle<R: Runner, S: Supervise>(runner: &mut R, supervisor: &mut S) -> Option<u64>
-    requires drives { Drives (S.world supervisor.old) × ((S.world supervisor.old).steady ≡ true) }
-    requires placed { (p : SessionState) × (d : Device) × AsTold R.Runner runner.old (IsServing p d (S.world supervisor.old)) }
+    requires drives { AreDriven (S.world supervisor.old) × ((S.world supervisor.old).steady ≡ true) }
+    requires from_state { (p : SessionState) × (d : Device) × AsTold R.Runner runner.old (IsServing p d (S.world supervisor.old)) }
     ensures now { IfSome result (λ now. (R.told runner.new ≡ now) × (now + 1 < 2 ^ 62)) }
     ensures last { IfNone result (R.told runner.new + 1 ≡ 2 ^ 62) }
     ensures trace { (p : SessionState) → (d : Device) → AsTold R.Runner runner.old (IsServing p d (S.world supervisor.old)) →
-        (h : List TraceEvent) × Acts p h (R.list runner.old) (R.list runner.new)
+        (h : List TraceEvent) × ActTrace p h (R.list runner.old) (R.list runner.new)
         × AsTold R.Runner runner.new (SettledLeft p result (state_after p h) d (S.world supervisor.new)) }
-    ensures stays { Stays (S.world supervisor.old) (S.world supervisor.new) }
+    ensures stays { IsKeptSteady (S.world supervisor.old) (S.world supervisor.new) }
     ensures clock { R.clock runner.old ≤ R.told runner.new }
 {
     let now = pass(runner, supervisor);

@@ -5,10 +5,10 @@ ghost use Rattle.components.specs.Deadlines.{least_deadline, until};
 ghost use Rattle.histories.specs.TraceEvents.{TraceEvent};
 ghost use Rattle.histories.specs.States.{SessionState, state_after};
 ghost use Rattle.session_boots.specs.Stages.{AsTold};
-ghost use Rattle.session_boots.specs.Traces.{Acts};
-ghost use Rattle.law_termination.specs.Drives.{Drives};
+ghost use Rattle.session_boots.specs.Traces.{ActTrace};
+ghost use Rattle.law_termination.specs.Drives.{AreDriven};
 ghost use Rattle.session_steady.specs.Serves.{HasWaited, IsWaiting};
-ghost use Rattle.session_steady.specs.Stays.{Stays};
+ghost use Rattle.session_steady.specs.Stays.{IsKeptSteady};
 
 use components::Supervise;
 use session_acts::{longest_wait, wait};
@@ -30,12 +30,12 @@ fn turn_limit<S: Supervise>(supervisor: &S, now: u64) -> u64
 /// had nothing is over.
 pub fn wait_turn<R: Runner, S: Supervise>(runner: &mut R, supervisor: &mut S, now: u64)
     requires now { (R.told runner.old ≡ now) × (now < 2 ^ 62) }
-    requires drives { Drives (S.world supervisor.old) }
-    requires placed { (p : SessionState) × (d : Device) × AsTold R.Runner runner.old (IsWaiting p d (S.world supervisor.old)) }
+    requires drives { AreDriven (S.world supervisor.old) }
+    requires from_state { (p : SessionState) × (d : Device) × AsTold R.Runner runner.old (IsWaiting p d (S.world supervisor.old)) }
     ensures trace { (p : SessionState) → (d : Device) → AsTold R.Runner runner.old (IsWaiting p d (S.world supervisor.old)) →
-        (h : List TraceEvent) × Acts p h (R.list runner.old) (R.list runner.new)
+        (h : List TraceEvent) × ActTrace p h (R.list runner.old) (R.list runner.new)
         × AsTold R.Runner runner.new (HasWaited p (state_after p h) h d (S.world supervisor.new)) }
-    ensures stays { Stays (S.world supervisor.old) (S.world supervisor.new) }
+    ensures stays { IsKeptSteady (S.world supervisor.old) (S.world supervisor.new) }
     ensures clock { R.clock runner.old ≤ R.clock runner.new }
 {
     let limit = turn_limit(supervisor, now);

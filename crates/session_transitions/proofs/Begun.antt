@@ -3,7 +3,7 @@ use Rattle.std.specs.Prelude.{ℕ, Bool, true, false, List, [], ◌∷◌, Optio
 use Rattle.std.specs.Option.{IsSomeAnd, option_map_or}
 use Rattle.std.proofs.Common.{◌≡◌, ◌∙◌, refl, sym, ap, subst}
 use Rattle.std.proofs.lemmas.Bool.{false≢true}
-use Rattle.disk_model.specs.Disk.{Image, Leaves, DiskLaws}
+use Rattle.disk_model.specs.Disk.{Image, HasLeft, DiskLaws}
 use Rattle.records.specs.Stored as stored
 use Rattle.device.specs.Devices.{Device, Pending}
 use Rattle.device.specs.Lawful.{Allowed, MayActivate, applied, next_boot, no_failures}
@@ -26,7 +26,7 @@ use Rattle.session_boots.specs.Traces.{IsTrace}
 use Rattle.session_boots.proofs.Entries.{never}
 use Rattle.session_transitions.specs.Fails.{IsGivenUp}
 use Rattle.session_transitions.proofs.Closing.{no_other}
-use Rattle.session_transitions.proofs.Turned.{turn_went}
+use Rattle.session_transitions.proofs.Turned.{back_went}
 
 abbrev pub Begin : TraceEvent
 Begin = Recorded stored.Activating
@@ -37,15 +37,15 @@ none_next : (b : Bool) (o : Option (List ℕ)) → b ≡ false → (if b then No
 none_next true o well none = absurd (false≢true (sym well))
 none_next false o well none = none
 
-pub can_activate : (d : Device) → IsIn stages.Booting d → (duty_of d).turn ≡ None → has_failed d ≡ false → Allowed d stored.Activating
+pub can_activate : (d : Device) → IsIn stages.Booting d → (duty_of d).next_bootstrap ≡ None → has_failed d ≡ false → Allowed d stored.Activating
 can_activate d is none well = by d.pending is none well
   where
-    in_stage : (s : Stage) (q : Pending) → s ≡ stages.Booting → (duty_in d (record q { stage = s })).turn ≡ None → q.boot_failed ≡ false →
+    in_stage : (s : Stage) (q : Pending) → s ≡ stages.Booting → (duty_in d (record q { stage = s })).next_bootstrap ≡ None → q.boot_failed ≡ false →
         next_boot (record q { stage = s }) ≡ None
     in_stage s q is none well =
         let there : Pending = record q { stage = stages.Booting } in
-        let turn : (duty_in d there).turn ≡ None = subst (λ (x : Stage). (duty_in d (record q { stage = x })).turn ≡ None) is none in
-        subst (λ (x : Stage). next_boot (record q { stage = x }) ≡ None) (sym is) (none_next q.boot_failed (next_boot there) well turn)
+        let is_next : (duty_in d there).next_bootstrap ≡ None = subst (λ (x : Stage). (duty_in d (record q { stage = x })).next_bootstrap ≡ None) is none in
+        subst (λ (x : Stage). next_boot (record q { stage = x }) ≡ None) (sym is) (none_next q.boot_failed (next_boot there) well is_next)
 
     by : (o : Option Pending) → IsSomeAnd o (λ q. q.stage ≡ stages.Booting)
         → (elim o as (λ (x : Option Pending). Duty) [
@@ -56,11 +56,11 @@ can_activate d is none well = by d.pending is none well
             counts =
                 no_failures;
             boots = [];
-            turn = None;
+            next_bootstrap = None;
             begun = false;
           }
           | Some q ↦ duty_in d q
-        ]).turn ≡ None
+        ]).next_bootstrap ≡ None
         → option_map_or (λ q. q.boot_failed) o false ≡ false → IsSomeAnd o MayActivate
     by None is none well = absurd is
     by (Some q) is none well = (is, well, in_stage q.stage q is none well)
@@ -74,7 +74,7 @@ goes_on false = refl
 module _ (p : SessionState) (d : Device) (world : Components) (told : Told) (living : List ℕ) (o : IsOpened p d world told living) where
   begin_follows : MayFollow p Begin
   begin_follows = (
-    record { told = o.quiet.told; alone = o.boot; no_end = o.boot_end; on = ap is_shutting_down o.generation ∙ goes_on (is_stopped p.world) },
+    record { owes_none = o.quiet.owes_none; alone = o.boot; no_end = o.boot_end; on = ap is_shutting_down o.generation ∙ goes_on (is_stopped p.world) },
     (λ cut. absurd (never p.cut o.cut cut)),
     o.over,
   )
@@ -124,7 +124,7 @@ module _ (entries : Image → List (List ℕ) → Type 0) (files : List ℕ → 
     (laws : DiskLaws is_modelled seen may_leave moment left_since) where
   pub begin_went : (old new : D) (list : Option (List RunnerEntry)) (p : SessionState) (d : Device) (world : Components) (told : Told) (living : List ℕ) →
       IsOpened p d world told living → Allowed d stored.Activating
-      → Leaves moment left_since old new (LeavesEither may_leave files entries old d (applied d stored.Activating)) →
+      → HasLeft moment left_since old new (LeavesEither may_leave files entries old d (applied d stored.Activating)) →
       IsTrace entries files may_leave moment left_since old new list list p (Begin ∷ [])
-  begin_went old new list p d world told living o allowed notes = turn_went entries files laws old new list p d stored.Activating o.stands.device_is
+  begin_went old new list p d world told living o allowed notes = back_went entries files laws old new list p d stored.Activating o.stands.device_is
       (begin_follows p d world told living o) allowed notes

@@ -17,14 +17,14 @@ use Rattle.components.specs.Changes.{forgetting, steadied}
 use Rattle.histories.specs.Phases.{Generation, duty_of, is_shutting_down, is_idle, is_current, draining, current}
 use Rattle.histories.specs.TraceEvents.{Recorded}
 use Rattle.histories.specs.States.{SessionState, leaves}
-use Rattle.histories.specs.Follows.{IsBootChild, IsClear, Lives, MayClose as MayEnd}
-use Rattle.histories.specs.Courses.{IsBare, Stands}
+use Rattle.histories.specs.Follows.{IsBootChild, IsClear, IsLiving, MayClose as MayEnd}
+use Rattle.histories.specs.Courses.{IsBare, IsStateOf}
 use Rattle.session_boots.specs.Stands.{IsAtBootStage}
-use Rattle.session_boots.specs.Ends.{Left}
+use Rattle.session_boots.specs.Ends.{ResultLeft}
 use Rattle.session_boots.specs.declared.ends.SessionFault.{SessionFault}
 use Rattle.session_boots.proofs.Entries.{never}
 use Rattle.session_boots.proofs.Still.{childless}
-use Rattle.law_supervisor.specs.Sound.{Differ, IsOrderly}
+use Rattle.law_supervisor.specs.Sound.{AreDistinct, IsOrderly}
 use Rattle.law_supervisor.proofs.Steadied.{closed_orderly, living_steadied, owes_steadied, owner_steadied, steadied_orderly}
 use Rattle.session_startup.specs.Closing.{MayCloseNow, just_closed}
 use Rattle.session_startup.specs.Ended.{HasBroken, HasClosed}
@@ -57,9 +57,9 @@ idle_of d (Some q) o h = refl
 
 -- ---- where it leaves the call
 
-stands_closed : (p : SessionState) (d e : Device) (o : Outcome) (world : Components) (told : Told) (living : List ℕ) → Stands p d world told living →
+stands_closed : (p : SessionState) (d e : Device) (o : Outcome) (world : Components) (told : Told) (living : List ℕ) → IsStateOf p d world told living →
     e ≡ applied d (stored.Closed o)
-    → Stands (leaves p (Recorded (stored.Closed o))) e (steadied world) told living
+    → IsStateOf (leaves p (Recorded (stored.Closed o))) e (steadied world) told living
 stands_closed p d e o world told living s same = record {
   device_is = ap (λ (x : Device). applied x (stored.Closed o)) s.device_is ∙ sym same;
   world_is = ap (λ (w : Components). steadied w) s.world_is;
@@ -83,7 +83,7 @@ still_on c is = rw is refl
 module _ (p : SessionState) (d : Device) (world : Components) (told : Told) (living : List ℕ) (f : IsAtBootStage p d world told living) where
   pub boot_clear : IsClear p
   boot_clear = record {
-    told = f.between.still.quiet.told;
+    owes_none = f.between.still.quiet.owes_none;
     alone = f.between.boot;
     no_end = f.between.boot_end;
     on =
@@ -107,7 +107,7 @@ module _ (p : SessionState) (d : Device) (o : Outcome) (world : Components) (tol
       there = inr (stopped_steadied p.world ∙ f.between.still.stopped);
       boot = f.between.boot;
       boot_end = f.between.boot_end;
-      told = owes_steadied p.world ∙ f.between.still.quiet.told;
+      owes_none = owes_steadied p.world ∙ f.between.still.quiet.owes_none;
       over = refl;
       cut = f.between.still.cut;
     };
@@ -122,8 +122,8 @@ module _ (p : SessionState) (d : Device) (o : Outcome) (world : Components) (tol
 
   pub boot_left : {J D : Type 0} (entries : Image → List (List ℕ) → Type 0) (may_leave : D → Image → Type 0) (disk : D) (now : Components) →
       IsOrderly p.world → IsSome d.pending → (result : Result (Idle J) SessionFault)
-      → Left entries may_leave disk p (just_closed o) (λ s q. idle_device s ≡ q.device) result → OnOk result (now ≡ steadied world)
-      → Left entries may_leave disk p (just_closed o) (λ s q. HasClosed o draining (just_closed o) q (idle_device s) now told living) result
+      → ResultLeft entries may_leave disk p (just_closed o) (λ s q. idle_device s ≡ q.device) result → OnOk result (now ≡ steadied world)
+      → ResultLeft entries may_leave disk p (just_closed o) (λ s q. HasClosed o draining (just_closed o) q (idle_device s) now told living) result
   boot_left entries may_leave disk now orderly pending (Ok s) same is = subst
       (λ (w : Components). HasClosed o draining (just_closed o) (leaves p (Recorded (stored.Closed o))) (idle_device s) w told living) (sym is)
       (boot_closed (idle_device s) orderly pending (same ∙ ap (λ (x : Device). applied x (stored.Closed o)) f.between.stands.device_is))
@@ -131,12 +131,18 @@ module _ (p : SessionState) (d : Device) (o : Outcome) (world : Components) (tol
 
 -- ---- from among items that come up
 
-pub no_other : (p : SessionState) (n : ℕ) (living : List ℕ) → p.boot ≡ None → Contains living n ↔ Lives n p → Contains living n ↔ IsSome (owner n p.world.parts)
+pub no_other : (p : SessionState) (n : ℕ) (living : List ℕ) → p.boot ≡ None → Contains living n ↔ IsLiving n p →
+    Contains living n ↔ IsSome (owner n p.world.parts)
 no_other p n living boot same = ((λ h. without_boot (no_boot p.boot n boot) (same.0 h)), (λ h. same.1 (inl h)))
 
 module _ (p : SessionState) (d : Device) (world : Components) (told : Told) (living : List ℕ) (b : HasBroken p d world told living) where
   pub items_clear : IsClear p
-  items_clear = record { told = b.quiet.told; alone = b.comes.on.boot; no_end = b.comes.on.boot_end; on = going_on p.generation b.comes.on.generation }
+  items_clear = record {
+    owes_none = b.quiet.owes_none;
+    alone = b.comes.on.boot;
+    no_end = b.comes.on.boot_end;
+    on = going_on p.generation b.comes.on.generation;
+  }
 
   pub owners_now : (n : ℕ) → owner n world.parts ≡ owner n p.world.parts
   owners_now n = sym (ap (λ (w : Components). owner n w.parts) b.comes.stands.world_is)
@@ -161,7 +167,7 @@ module _ (p : SessionState) (d : Device) (o : Outcome) (world : Components) (tol
       there = inl (present_is p.generation b.comes.on.generation);
       boot = b.comes.on.boot;
       boot_end = b.comes.on.boot_end;
-      told = owes_steadied p.world ∙ b.quiet.told;
+      owes_none = owes_steadied p.world ∙ b.quiet.owes_none;
       over = refl;
       cut = b.comes.on.cut;
     };
@@ -173,8 +179,8 @@ module _ (p : SessionState) (d : Device) (o : Outcome) (world : Components) (tol
 
   pub items_left : {J D : Type 0} (entries : Image → List (List ℕ) → Type 0) (may_leave : D → Image → Type 0) (disk : D) (now : Components) →
       IsSome d.pending → (result : Result (Idle J) SessionFault)
-      → Left entries may_leave disk p (just_closed o) (λ s q. idle_device s ≡ q.device) result → OnOk result (now ≡ steadied world)
-      → Left entries may_leave disk p (just_closed o) (λ s q. HasClosed o current (just_closed o) q (idle_device s) now told living) result
+      → ResultLeft entries may_leave disk p (just_closed o) (λ s q. idle_device s ≡ q.device) result → OnOk result (now ≡ steadied world)
+      → ResultLeft entries may_leave disk p (just_closed o) (λ s q. HasClosed o current (just_closed o) q (idle_device s) now told living) result
   items_left entries may_leave disk now pending (Ok s) same is = subst
       (λ (w : Components). HasClosed o current (just_closed o) (leaves p (Recorded (stored.Closed o))) (idle_device s) w told living) (sym is)
       (items_closed (idle_device s) pending (same ∙ ap (λ (x : Device). applied x (stored.Closed o)) b.comes.stands.device_is))
@@ -190,7 +196,7 @@ module _ (p : SessionState) (d : Device) (o : Outcome) (world : Components) (tol
     boot_end = b.comes.on.boot_end;
     over = refl;
     cut = b.comes.on.cut;
-    differ = subst (λ (l : List ℕ). Differ l) (sym (living_steadied p.world)) b.comes.keeps.differ;
+    differ = subst (λ (l : List ℕ). AreDistinct l) (sym (living_steadied p.world)) b.comes.keeps.differ;
     owners = λ n. same n ∙ owners_now p d world told living b n ∙ sym (owner_steadied n p.world);
     children = λ n. subst (λ (x : Option (ℕ × Step)). Contains living n ↔ IsSome x) (sym (owner_steadied n p.world))
         (no_other p n living b.comes.on.boot (b.comes.stands.children n));

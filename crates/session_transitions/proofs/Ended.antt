@@ -19,7 +19,7 @@ no_restart statuses.Edge g r = absurd cc
 no_restart statuses.Memory g r = absurd cc
 no_restart s g r = absurd cc
 
--- Where all were killed the call may end with a status of one that gives up. What is not recorded then is that of the place from which it was done.
+-- Where all were killed the call may end with a status of one that gives up. What is not recorded then is that of the state from which it was done.
 pub killed_ends : (p q : SessionState) (world : Components) (told : Told) (living : List ℕ) (status : Status) (rose : Bool) → IsGivenUp p world told living →
     KeepsRest p q → IsBare q → gives_up status ≡ true
     → (leaves_open status ≡ false → list_any owes p.world.parts ≡ false) → IsEnd q status rose
@@ -27,7 +27,7 @@ killed_ends p q world told living status rose g k bare gives owed = record {
   bare = bare;
   stopped = λ stays. clash (gives_up status) gives stays;
   cut = λ cut. gives;
-  told = λ kept. k.owed ∙ owed kept;
+  owes_none = λ kept. k.owed ∙ owed kept;
   recorded = inl (k.boot_end ∙ g.boot_end);
   restarts = λ restart. absurd (no_restart status gives restart);
   over = λ over. inr gives;

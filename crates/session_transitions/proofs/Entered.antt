@@ -1,4 +1,4 @@
--- What a change to the items of a stage makes of a place.
+-- What a change to the items of a stage makes of a state.
 use Rattle.std.proofs.Common.{◌≡◌, ℕ, List, [], ◌∷◌, Option, Some, None, true, false, refl, sym, ap, subst, ◌∙◌, inl, inr}
 use Rattle.std.specs.Prelude.{◌↔◌}
 use Rattle.std.proofs.lemmas.Bool.{false≢true}
@@ -16,16 +16,16 @@ use Rattle.histories.specs.Phases.{Duty, Phase, duty_in, duty_of, is_idle, idle,
 use Rattle.histories.specs.States.{SessionState, leaves, state_after}
 use Rattle.histories.specs.Follows.{MayChange, MayFollow}
 use Rattle.histories.specs.Waits.{has_three}
-use Rattle.session_boots.specs.Traces.{Acts}
+use Rattle.session_boots.specs.Traces.{ActTrace}
 use Rattle.session_boots.proofs.Acting.{grows_none}
 use Rattle.session_boots.proofs.Entries.{never}
 use Rattle.session_startup.specs.Runs.{IsAtTurnStart, rises}
-use Rattle.law_supervisor.specs.Keeps.{Keeps, Owns}
+use Rattle.law_supervisor.specs.Keeps.{IsSupervised, Owns}
 use Rattle.session_transitions.specs.Enters.{AreReady, MayEnter}
 use Rattle.session_transitions.proofs.Shut.{changed_answered}
 
 abbrev idle_duty : Device → Duty
-idle_duty d = record { origin = d.origin; phase = idle; items = d.set; counts = no_failures; boots = []; turn = None; begun = false }
+idle_duty d = record { origin = d.origin; phase = idle; items = d.set; counts = no_failures; boots = []; next_bootstrap = None; begun = false }
 
 not_idle : (f : Phase) → rises f ≡ true → false ≡ is_idle f
 not_idle idle up = absurd (false≢true up)
@@ -66,14 +66,14 @@ module _ (first : HasFirst) (d : Device) (fitted : List Fitted) (counts : List �
         recorded = same;
         few = few;
         mode = not_idle (duty_of d).phase up;
-        told = e.recorded;
+        owes_none = e.recorded;
         answered = e.begun;
       } in
       (subst (λ (x : Duty). MayChange x p fitted counts false) back may, (λ cut. absurd (never p.cut e.cut cut)), e.over)
 
   -- and leaves the items coming up
   comes : (p : SessionState) (world : Components) (told : Told) (living : List ℕ) → MayEnter p d world told living → rises (duty_of d).phase ≡ true
-      → Keeps d (changed_to fitted counts false p.world) → ((n : ℕ) → Owns (changed_to fitted counts false p.world) n ↔ Owns p.world n)
+      → IsSupervised d (changed_to fitted counts false p.world) → ((n : ℕ) → Owns (changed_to fitted counts false p.world) n ↔ Owns p.world n)
       → IsAtTurnStart (leaves p Change) d (changed_to fitted counts false world) told living
   comes p world told living e up keeps owners =
       let s = e.stands in
@@ -97,15 +97,15 @@ module _ (first : HasFirst) (d : Device) (fitted : List Fitted) (counts : List �
           over = e.over;
           cut = e.cut;
         };
-        keeps = subst (λ (x : Device). Keeps x (changed_to fitted counts false p.world)) (sym s.device_is) keeps;
+        keeps = subst (λ (x : Device). IsSupervised x (changed_to fitted counts false p.world)) (sym s.device_is) keeps;
         probed = refl;
       }
 
   pub entered : (p : SessionState) (world : Components) (told : Told) (living : List ℕ) → MayEnter p d world told living → rises (duty_of d).phase ≡ true →
       AreReady d fitted
       → counts ≡ (duty_of d).counts → has_three counts ≡ false
-      → Keeps d (changed_to fitted counts false p.world) → ((n : ℕ) → Owns (changed_to fitted counts false p.world) n ↔ Owns p.world n)
-      → (h : List TraceEvent) × Acts p h told.list told.list × IsAtTurnStart (state_after p h) d (changed_to fitted counts false world) told living
+      → IsSupervised d (changed_to fitted counts false p.world) → ((n : ℕ) → Owns (changed_to fitted counts false p.world) n ↔ Owns p.world n)
+      → (h : List TraceEvent) × ActTrace p h told.list told.list × IsAtTurnStart (state_after p h) d (changed_to fitted counts false world) told living
   entered p world told living e up ready same few keeps owners = (
     Change ∷ [],
     record { proper = (change_follows p world told living e up ready same few, tt); none = refl; list = grows_none told.list told.list refl; device = refl },

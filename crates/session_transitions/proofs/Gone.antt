@@ -47,11 +47,11 @@ taken_from j n (p ∷ ps) k s a e = at (child_of n p.children) refl e (taken_fro
         → Taken j n k (p ∷ ps)
     at None q e rest =
         let r = rest e in
-        let front = without_none n (child_numbers p.children) (no_child n p.children q) in (
+        let prefix = without_none n (child_numbers p.children) (no_child n p.children q) in (
           suc r.0,
           omega (arith, r.1),
           ap (λ (l : List ℕ). child_numbers p.children ++ l) r.2 ∙ sym (filter-append (λ m. not (m == n)) (child_numbers p.children) (living_numbers ps) ∙ ap
-              (λ (l : List ℕ). l ++ without n (living_numbers ps)) front),
+              (λ (l : List ℕ). l ++ without n (living_numbers ps)) prefix),
         )
     at (Some c) q e rest =
         let back = without_none n (living_numbers ps) (apart_both n (child_numbers p.children) (living_numbers ps) a (has_number n p.children c q)) in

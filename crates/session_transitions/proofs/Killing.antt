@@ -3,7 +3,7 @@ use Rattle.std.specs.Prelude.{ℕ, nat_lt, Bool, true, false, List, [], ◌∷�
 use Rattle.std.proofs.Common.{◌≡◌, ◌≢◌, ◌<◌, ◌≤◌, ◌↔◌, ◌⊎◌, ◌∙◌, inl, refl, sym, ap, subst, arith}
 use Rattle.std.proofs.lemmas.Bool.{lt-ltb, ltb-true}
 use Rattle.nuc_base.specs.declared.kinds.Step.{Step}
-use Rattle.step_runner.specs.Entries.{Notes, Told, without}
+use Rattle.step_runner.specs.Entries.{HasNoted, Told, without}
 use Rattle.step_runner.specs.declared.entries.RunnerEntry.{RunnerEntry}
 use Rattle.step_runner.specs.declared.entries.Seen.TheVariants as seen
 use Rattle.components.specs.Components.{Components, owner}
@@ -13,7 +13,7 @@ use Rattle.components.specs.Readied.{AreApart}
 use Rattle.histories.specs.TraceEvents.{ReadClock, KilledOnAbort}
 use Rattle.histories.specs.States.{SessionState, cut_boot, leaves}
 use Rattle.histories.specs.Courses.{IsBare}
-use Rattle.session_boots.specs.Traces.{Acts}
+use Rattle.session_boots.specs.Traces.{ActTrace}
 use Rattle.session_boots.proofs.Acting.{grows_none}
 use Rattle.session_acts.proofs.Entering.{entry, never}
 use Rattle.session_acts.proofs.Living.{lives_without}
@@ -42,7 +42,7 @@ back e = (e.1, e.0)
 -- ---- the moment before the first
 
 module _ (p : SessionState) (world : Components) (old : Told) (living : List ℕ) (g : IsGivenUp p world old living) (now : ℕ) where
-  pub ask_acts : (list new : Option (List RunnerEntry)) → old.moment ≤ now → new ≡ list → Acts p (ReadClock now ∷ []) list new
+  pub ask_acts : (list new : Option (List RunnerEntry)) → old.moment ≤ now → new ≡ list → ActTrace p (ReadClock now ∷ []) list new
   ask_acts list new later_on same = record {
     proper = ((omega (arith, g.moment, later_on), (λ cut. tt), g.over), tt);
     none = refl;
@@ -87,7 +87,7 @@ module _ (p : SessionState) (last : Option ℕ) (world : Components) (old : Told
   pub kill_lives : Contains living n
   kill_lives = (k.children n).1 own
 
-  pub kill_acts : (new : Told) → Notes old new (seen.Killed n) → Acts p (KilledOnAbort (entry old (seen.Killed n)) ∷ []) old.list new.list
+  pub kill_acts : (new : Told) → HasNoted old new (seen.Killed n) → ActTrace p (KilledOnAbort (entry old (seen.Killed n)) ∷ []) old.list new.list
   kill_acts new notes = record {
     proper = (((inl own, record { moment = k.moment; asked = k.asked; due = λ d. k.asked ∙ k.due d }), (λ cut. tt), k.over), tt);
     none = refl;
@@ -104,10 +104,10 @@ module _ (p : SessionState) (last : Option ℕ) (world : Components) (old : Told
   beside : (m : ℕ) → ((m ≢ n) × Contains living m) ↔ ((m ≢ n) × IsSome (owner m p.world.parts))
   beside m = ((λ h. (h.0, (k.children m).0 h.1)), (λ h. (h.0, (k.children m).1 h.1)))
 
-  pub kill_kills : (new : Told) (next : List ℕ) → Notes old new (seen.Killed n) → next ≡ without n living →
+  pub kill_kills : (new : Told) (next : List ℕ) → HasNoted old new (seen.Killed n) → next ≡ without n living →
       IsKilling (leaves p (KilledOnAbort (entry old (seen.Killed n)))) (Some n) world new next
   kill_kills new next notes same = record {
-    moment = notes.told ∙ k.moment ∙ sym (cut_moment n p.world);
+    moment = notes.moment ∙ k.moment ∙ sym (cut_moment n p.world);
     asked = notes.asked;
     due = λ d. absurd (never false refl d);
     boot = ap (cut_boot n) k.boot;

@@ -9,7 +9,7 @@ use Rattle.std.proofs.lemmas.Map.Views.{any-filter_same}
 use Rattle.step_runner.specs.Entries.{without}
 use Rattle.components.specs.Numbers.{among}
 use Rattle.components.specs.Readied.{AreApart}
-use Rattle.law_supervisor.specs.Sound.{Differ}
+use Rattle.law_supervisor.specs.Sound.{AreDistinct}
 
 -- ---- one of them
 
@@ -32,7 +32,7 @@ none_is : (n : ℕ) (ms : List ℕ) → AllByRecursion (λ (m : ℕ). m ≢ n) m
 none_is n [] a = refl
 none_is n (m ∷ ms) a = let e : (m == n) ≡ false = ne_eqb m n a.0 in rw e (none_is n ms a.1)
 
-pub apart_of : (ns : List ℕ) → Differ ns → AreApart ns
+pub apart_of : (ns : List ℕ) → AreDistinct ns → AreApart ns
 apart_of [] d = tt
 apart_of (n ∷ ns) d = (none_is n ns (recursion_from_All (λ (m : ℕ). m ≢ n) ns d.0), apart_of ns d.1)
 
@@ -40,7 +40,7 @@ pub apart_back : (xs ys : List ℕ) → AreApart (xs ++ ys) → AreApart ys
 apart_back [] ys a = a
 apart_back (x ∷ xs) ys a = apart_back xs ys a.1
 
--- what stands in front does not stand behind
+-- what stands before does not stand behind
 pub apart_both : (n : ℕ) (xs ys : List ℕ) → AreApart (xs ++ ys) → among n xs ≡ true → among n ys ≡ false
 apart_both n [] ys a e = absurd cc
 apart_both n (x ∷ xs) ys a e = at (x == n) refl e (apart_both n xs ys a.1)

@@ -44,15 +44,15 @@ is_cond : (b : Bool) (k : ℕ) → is_some (if b then Some k else None) ≡ b
 is_cond true k = refl
 is_cond false k = refl
 
-eq_turned : (a b : ℕ) → nat_eq a b ≡ (b == a)
-eq_turned a b = grind (arith, nat_tests)
+eq_swapped : (a b : ℕ) → nat_eq a b ≡ (b == a)
+eq_swapped a b = grind (arith, nat_tests)
 
 abbrev Found : List ℕ → Type 0
 Found l = nat_lt (position_or_len (nat_eq 3) l) (length l) ≡ list_any (λ n. n == 3) l
 
 found_by : (x : ℕ) (l : List ℕ) (b : Bool) → nat_eq 3 x ≡ b → Found l → Found (x ∷ l)
-found_by x l true is rest = let turned : (x == 3) ≡ true = sym (eq_turned 3 x) ∙ is in grind (arith, nat_tests, is, turned)
-found_by x l false is rest = let turned : (x == 3) ≡ false = sym (eq_turned 3 x) ∙ is in grind (arith, nat_tests, is, turned, rest)
+found_by x l true is rest = let turned : (x == 3) ≡ true = sym (eq_swapped 3 x) ∙ is in grind (arith, nat_tests, is, turned)
+found_by x l false is rest = let turned : (x == 3) ≡ false = sym (eq_swapped 3 x) ∙ is in grind (arith, nat_tests, is, turned, rest)
 
 found_in : (l : List ℕ) → Found l
 found_in [] = refl
@@ -102,7 +102,7 @@ closes_backing d is failed = by d.pending is failed
     by None is failed = absurd is
     by (Some q) is failed = inr (is, failed)
 
--- ---- it is turned back
+-- ---- it is rolled back
 
 name_there : (b : Bool) (o : Option (List ℕ)) → b ≡ true → is_some o ≡ true → is_some (if b then o else None) ≡ true
 name_there true o is some = some

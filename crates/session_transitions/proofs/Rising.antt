@@ -20,7 +20,7 @@ use Rattle.law_supervisor.specs.Sound.{IsOrderly}
 use Rattle.histories.specs.Phases.{Generation, Phase, activating, backing, booting, duty_in, duty_of, idle, draining, previous, rolling}
 use Rattle.histories.specs.States.{SessionState}
 use Rattle.histories.specs.Follows.{MayChangeIn}
-use Rattle.histories.specs.Courses.{Stands}
+use Rattle.histories.specs.Courses.{IsStateOf}
 use Rattle.session_boots.specs.Stands.{IsAtBootStage, IsOpened}
 use Rattle.session_boots.proofs.Opened.{opened_at}
 use Rattle.session_startup.specs.Runs.{rises}
@@ -98,15 +98,15 @@ answered_at w v m is answered = ap has_answered is ∙ answered
 -- ---- from where a stage begins
 
 module _ (p : SessionState) (d : Device) (world : Components) (told : Told) (living : List ℕ) where
-  -- what the supervisor knows of is orderly where the place is: a moment changes no component
-  pub orderly_at : Stands p d world told living → IsOrderly world → IsOrderly p.world
+  -- what the supervisor knows of is orderly where the state is: a moment changes no component
+  pub orderly_at : IsStateOf p d world told living → IsOrderly world → IsOrderly p.world
   orderly_at s orderly = subst IsOrderly (sym s.world_is) (record { sound = orderly.sound; differ = orderly.differ; names = orderly.names })
 
   enters : IsOpened p d world told living → IsOrderly world → MayChangeIn (duty_of d).phase p.generation p → MayEnter p d world told living
   enters o orderly stage = record {
     stands = o.stands;
     stage = stage;
-    recorded = o.quiet.told;
+    recorded = o.quiet.owes_none;
     begun = none_begun p.world p.world.parts o.quiet.none (answered_at p.world world told.moment o.stands.world_is o.stands.answered);
     orderly = orderly_at o.stands orderly;
     boot = o.boot;

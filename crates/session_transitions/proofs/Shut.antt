@@ -7,7 +7,7 @@ use Rattle.std.proofs.lemmas.Bool.{false≢true}
 use Rattle.lifecycle.specs.declared.kinds.After.TheVariants as after
 use Rattle.components.specs.Fitted.{Fitted, is_before, is_same_item, name_of}
 use Rattle.components.specs.Components.{Components, ComponentState, is_gone, is_over, component_name, stops_for_good, under_way}
-use Rattle.components.specs.Marks.{Flagged, HasFirst, Within, flagged, marked, may_replan, reaching}
+use Rattle.components.specs.Marks.{Flagged, HasFirst, AreFlagsWithin, flagged, marked, may_replan, reaching}
 use Rattle.components.specs.Answers.{has_answered}
 use Rattle.components.specs.Changes.{Coming, changed_to, coming_again, coming_for, counted, fate, fresh_part, is_replaced, is_replacing, leaving, meeting}
 use Rattle.components.specs.Changes.{newcomers, placed, replacing, replanned, standing, staying, with_newcomers, with_texts}
@@ -96,7 +96,7 @@ shut_flagged : (test : ComponentState → Bool) (ps : List ComponentState) → A
 shut_flagged test [] a = tt
 shut_flagged test (p ∷ ps) a = (a.0, shut_flagged test ps a.1)
 
-shut_within : (fs hs : Flagged) → Within fs hs → FlagsShut fs → FlagsShut hs
+shut_within : (fs hs : Flagged) → AreFlagsWithin fs hs → FlagsShut fs → FlagsShut hs
 shut_within [] [] w a = tt
 shut_within [] (h ∷ hs) w a = absurd w
 shut_within (f ∷ fs) [] w a = absurd w

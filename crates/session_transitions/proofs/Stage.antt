@@ -12,7 +12,7 @@ use Rattle.device.specs.Devices.{Device, Pending, pending_view}
 use Rattle.device.specs.declared.staged.Stage.{Stage}
 use Rattle.device.specs.declared.staged.Pending as code_pending
 use Rattle.device.specs.Lawful.{running, no_failures}
-use Rattle.device.specs.Plans.{AreItems, IsPlan, Rise, item_name}
+use Rattle.device.specs.Plans.{AreItems, IsPlan, AreRising, item_name}
 use Rattle.device.specs.Sound.{AreCounts, AreItemsFor, IsInStage, IsSound, IsUnderWay}
 use Rattle.device.specs.declared.staged.Stage.TheVariants as stages
 use Rattle.histories.specs.Phases.{Duty, duty_in, duty_of, idle}
@@ -45,7 +45,7 @@ pub record IsStage (o : Origin) (d : Device) (q : Pending) (duty : Duty) : Type 
   pub below_each : AllByRecursion (λ (n : ℕ). n < 3) q.failures
   pub items : running d.set q ≡ Some duty.items
   pub counts : duty.counts ≡ q.failures
-  pub rise : Rise (map item_name duty.items)
+  pub rise : AreRising (map item_name duty.items)
   pub few : length duty.items ≤ length q.failures
   pub below : All (λ (n : ℕ). n < 3) q.failures
   pub long : length q.failures ≡ 128
@@ -65,7 +65,7 @@ stage_facts d q duty items o runs counts same are counted few =
       below_each = below;
       items = runs;
       counts = counts;
-      rise = subst (λ (l : List Item). Rise (map item_name l)) (sym same) are.rise;
+      rise = subst (λ (l : List Item). AreRising (map item_name l)) (sym same) are.rise;
       few = subst (λ (l : List Item). length l ≤ length q.failures) (sym same) (omega (arith, many, short));
       below = All-from_recursion (λ (n : ℕ). n < 3) q.failures below;
       long = omega (arith, many);
@@ -89,7 +89,7 @@ module _ (d : Device) (o : Origin) (has : d.origin ≡ Some o) (sound : IsSound 
 
   abbrev duty_by : Option Pending → Duty
   duty_by x = elim x [
-    | None ↦ record { origin = d.origin; phase = idle; items = d.set; counts = no_failures; boots = []; turn = None; begun = false }
+    | None ↦ record { origin = d.origin; phase = idle; items = d.set; counts = no_failures; boots = []; next_bootstrap = None; begun = false }
     | Some q
         ↦ duty_in d q
   ]

@@ -10,7 +10,7 @@ use Rattle.components.specs.Fitted.{Fitted}
 use Rattle.components.specs.Turns.{hard_needs, is_met}
 use Rattle.law_supervisor.specs.Sound.{HaveOwnNames}
 use Rattle.law_termination.specs.Kept.{IsKeptPart, IsOrderedPart, are_there, newest}
-use Rattle.law_termination.specs.Drives.{Drives, IsBelow, IsDriven, is_ending}
+use Rattle.law_termination.specs.Drives.{AreDriven, IsBelow, IsDriven, is_ending}
 
 abbrev pub standing_of : Components → Components
 standing_of w = record w { parts = standing w.parts }
@@ -116,7 +116,7 @@ names_standing (x ∷ ps) own = by (not (is_over x)) (names_standing ps (others 
 
 -- ---- all of them, and a change
 
-pub drives_standing : (w : Components) → Drives w → Drives (standing_of w)
+pub drives_standing : (w : Components) → AreDriven w → AreDriven (standing_of w)
 drives_standing w d = record {
   alone = all_of IsKeptPart w.parts d.alone;
   names = names_standing w.parts d.names;

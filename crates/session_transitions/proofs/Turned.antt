@@ -1,10 +1,10 @@
--- The record that turns a deployment back, in a history.
+-- The record that rolls a deployment back, in a history.
 use Rattle.std.specs.Prelude.{ℕ, Bool, true, false, List, [], ◌∷◌, Option, Some, None, IsSome, is_some, slice_get, if◌then◌else◌, ◌||◌}
 use Rattle.std.specs.List.{AllByRecursion}
 use Rattle.std.specs.Option.{IfSome, IsSomeAnd}
 use Rattle.std.specs.Str.{bytes_eq}
 use Rattle.std.proofs.Common.{◌≡◌, ◌∙◌, refl, sym, ap, subst}
-use Rattle.disk_model.specs.Disk.{Image, Leaves, DiskLaws}
+use Rattle.disk_model.specs.Disk.{Image, HasLeft, DiskLaws}
 use Rattle.nuc_base.specs.declared.platform.Platform.{Platform}
 use Rattle.nuc_base.specs.declared.kinds.Policy.TheVariants as policies
 use Rattle.records.specs.Stored.{Item, Record}
@@ -22,7 +22,7 @@ use Rattle.histories.specs.Phases.{duty_of, previous, draining}
 use Rattle.histories.specs.TraceEvents.{Recorded}
 use Rattle.histories.specs.States.{SessionState, leaves}
 use Rattle.histories.specs.Follows.{HasNoBacks, IsClear, MayFollow, MayStopAll}
-use Rattle.histories.specs.Courses.{IsBare, Stands}
+use Rattle.histories.specs.Courses.{IsBare, IsStateOf}
 use Rattle.session_boots.specs.Lines.{lines_of}
 use Rattle.session_boots.specs.Stands.{IsAtBootStage, generation_of}
 use Rattle.session_boots.specs.Ends.{LeftAt}
@@ -31,9 +31,9 @@ use Rattle.session_boots.specs.declared.ends.SessionFault.TheVariants as over
 use Rattle.session_boots.proofs.Entries.{never}
 use Rattle.session_boots.proofs.Joins.{kept_one}
 use Rattle.session_boots.proofs.Opened.{generation_stopped}
-use Rattle.session_boots.proofs.Records.{doubt_at, front_bare}
+use Rattle.session_boots.proofs.Records.{doubt_at, stage_bare}
 use Rattle.session_startup.specs.Ended.{HasBroken}
-use Rattle.session_transitions.specs.Fails.{IsGivenUp, IsTurned}
+use Rattle.session_transitions.specs.Fails.{IsGivenUp, IsAtRollbackStart}
 use Rattle.session_transitions.proofs.Closing.{boot_clear, items_clear, moment_now, no_other, owners_now}
 
 abbrev pends : Device → Option Pending → Device
@@ -117,19 +117,19 @@ follows p d r device is clear cut over =
 
 -- ---- where it leaves the call
 
-abbrev turned_place : SessionState → Device → SessionState
-turned_place p e = record p { device = e; generation = generation_of p.world; taken = p.taken || false; probed = false; over = false }
+abbrev rolled_state : SessionState → Device → SessionState
+rolled_state p e = record p { device = e; generation = generation_of p.world; taken = p.taken || false; probed = false; over = false }
 
-place_by : (p : SessionState) (l : List (List ℕ)) (n : List ℕ) → leaves p (Recorded (break_by l n)) ≡ turned_place p (applied p.device (break_by l n))
-place_by p [] n = refl
-place_by p (b ∷ l) n = refl
+state_by : (p : SessionState) (l : List (List ℕ)) (n : List ℕ) → leaves p (Recorded (break_by l n)) ≡ rolled_state p (applied p.device (break_by l n))
+state_by p [] n = refl
+state_by p (b ∷ l) n = refl
 
-place_is : (p : SessionState) (r : Record) → IsWay r → leaves p (Recorded r) ≡ turned_place p (applied p.device r)
-place_is p r way = subst (λ (x : Record). leaves p (Recorded x) ≡ turned_place p (applied p.device x)) (sym way.2) (place_by p way.0 way.1)
+state_is : (p : SessionState) (r : Record) → IsWay r → leaves p (Recorded r) ≡ rolled_state p (applied p.device r)
+state_is p r way = subst (λ (x : Record). leaves p (Recorded x) ≡ rolled_state p (applied p.device x)) (sym way.2) (state_by p way.0 way.1)
 
-stands_turned : (p : SessionState) (d e : Device) (r : Record) (world : Components) (told : Told) (living : List ℕ) → Stands p d world told living →
-    e ≡ applied d r → Stands (turned_place p (applied p.device r)) e world told living
-stands_turned p d e r world told living s same = record {
+stands_rolled : (p : SessionState) (d e : Device) (r : Record) (world : Components) (told : Told) (living : List ℕ) → IsStateOf p d world told living →
+    e ≡ applied d r → IsStateOf (rolled_state p (applied p.device r)) e world told living
+stands_rolled p d e r world told living s same = record {
   device_is = ap (λ (x : Device). applied x r) s.device_is ∙ sym same;
   world_is = s.world_is;
   answered = s.answered;
@@ -162,11 +162,11 @@ clear_in d r is c p boot end = by d.pending is
 -- ---- from among bootstraps
 
 -- where a record leaves it with which another stage begins
-pub front_turned : (p : SessionState) (d e : Device) (world : Components) (told : Told) (living : List ℕ) → IsAtBootStage p d world told living →
-    (r : Record) → e ≡ applied d r → IsAtBootStage (turned_place p (applied p.device r)) e world told living
-front_turned p d e world told living f r same = record {
+pub stage_rolled : (p : SessionState) (d e : Device) (world : Components) (told : Told) (living : List ℕ) → IsAtBootStage p d world told living →
+    (r : Record) → e ≡ applied d r → IsAtBootStage (rolled_state p (applied p.device r)) e world told living
+stage_rolled p d e world told living f r same = record {
   between = record {
-    stands = stands_turned p d e r world told living f.between.stands same;
+    stands = stands_rolled p d e r world told living f.between.stands same;
     still = record {
       stopped = f.between.still.stopped;
       quiet = f.between.still.quiet;
@@ -187,11 +187,11 @@ boot_follows p d world told living f r is = follows p d r f.between.stands.devic
 
 module _ (p : SessionState) (d : Device) (world : Components) (told : Told) (living : List ℕ) (f : IsAtBootStage p d world told living) (r : Record)
     (way : IsWay r) where
-  pub boot_front : (e : Device) → e ≡ applied d r → IsAtBootStage (leaves p (Recorded r)) e world told living
-  boot_front e same = subst (λ (q : SessionState). IsAtBootStage q e world told living) (sym (place_is p r way)) (front_turned p d e world told living f r same)
+  pub stage_kept : (e : Device) → e ≡ applied d r → IsAtBootStage (leaves p (Recorded r)) e world told living
+  stage_kept e same = subst (λ (q : SessionState). IsAtBootStage q e world told living) (sym (state_is p r way)) (stage_rolled p d e world told living f r same)
 
   pub boot_bare : IsBare (leaves p (Recorded r))
-  boot_bare = front_bare (leaves p (Recorded r)) (applied d r) world told living (boot_front (applied d r) refl)
+  boot_bare = stage_bare (leaves p (Recorded r)) (applied d r) world told living (stage_kept (applied d r) refl)
 
 -- ---- from among items that come up
 
@@ -200,14 +200,14 @@ module _ (p : SessionState) (d : Device) (world : Components) (told : Told) (liv
   items_follow : MayFollow p (Recorded r)
   items_follow = follows p d r b.comes.stands.device_is is (items_clear p d world told living b) b.comes.on.cut b.comes.on.over
 
-  pub items_turned : (e : Device) → e ≡ applied d r → IsTurned (leaves p (Recorded r)) e world told living
-  items_turned e same = subst (λ (q : SessionState). IsTurned q e world told living) (sym (place_is p r (is_way d r is))) (record {
-    stands = stands_turned p d e r world told living b.comes.stands same;
+  pub items_rolled : (e : Device) → e ≡ applied d r → IsAtRollbackStart (leaves p (Recorded r)) e world told living
+  items_rolled e same = subst (λ (q : SessionState). IsAtRollbackStart q e world told living) (sym (state_is p r (is_way d r is))) (record {
+    stands = stands_rolled p d e r world told living b.comes.stands same;
     quiet = b.quiet;
     orderly = record { sound = b.comes.keeps.sound; differ = b.comes.keeps.differ; names = b.comes.keeps.names };
     generation = refl;
     clear = clear_in p.device r (subst (λ (x : Device). IsBreak x r) (sym b.comes.stands.device_is) is) (is_stopped p.world)
-        (turned_place p (applied p.device r)) b.comes.on.boot b.comes.on.boot_end;
+        (rolled_state p (applied p.device r)) b.comes.on.boot b.comes.on.boot_end;
     boot = b.comes.on.boot;
     boot_end = b.comes.on.boot_end;
     probed = refl;
@@ -216,7 +216,7 @@ module _ (p : SessionState) (d : Device) (world : Components) (told : Told) (liv
   })
 
   pub items_given_up : IsGivenUp (leaves p (Recorded r)) world told living
-  items_given_up = subst (λ (q : SessionState). IsGivenUp q world told living) (sym (place_is p r (is_way d r is))) (record {
+  items_given_up = subst (λ (q : SessionState). IsGivenUp q world told living) (sym (state_is p r (is_way d r is))) (record {
     moment = moment_now p d world told living b;
     asked = b.comes.stands.asked;
     boot = b.comes.on.boot;
@@ -234,27 +234,27 @@ module _ (entries : Image → List (List ℕ) → Type 0) (files : List ℕ → 
     ℕ → Image → Type 0} {is_modelled : Bool} {seen : D → Image}
     (laws : DiskLaws is_modelled seen may_leave moment left_since) where
   abbrev Notes : D → D → Device → Record → Type 0
-  Notes old new d r = Leaves moment left_since old new (LeavesEither may_leave files entries old d (applied d r))
+  Notes old new d r = HasLeft moment left_since old new (LeavesEither may_leave files entries old d (applied d r))
 
-  pub turn_went : (old new : D) (list : Option (List RunnerEntry)) (p : SessionState) (d : Device) (r : Record) → p.device ≡ d → MayFollow p (Recorded r) →
+  pub back_went : (old new : D) (list : Option (List RunnerEntry)) (p : SessionState) (d : Device) (r : Record) → p.device ≡ d → MayFollow p (Recorded r) →
       Allowed d r → Notes old new d r
       → IsTrace entries files may_leave moment left_since old new list list p (Recorded r ∷ [])
-  turn_went old new list p d r device may allowed notes =
+  back_went old new list p d r device may allowed notes =
       let same = sym device in
       kept_one entries files laws old new list p r may (subst (λ (x : Device). Allowed x r) same allowed) (subst (λ (x : Device). Notes old new x r) same notes)
 
   pub boot_went : (old new : D) (list : Option (List RunnerEntry)) (p : SessionState) (d : Device) (world : Components) (told : Told) (living : List ℕ) →
       IsAtBootStage p d world told living → (r : Record) → IsBreak d r → Allowed d r → Notes old new d r
       → IsTrace entries files may_leave moment left_since old new list list p (Recorded r ∷ [])
-  boot_went old new list p d world told living f r is allowed notes = turn_went old new list p d r f.between.stands.device_is
+  boot_went old new list p d world told living f r is allowed notes = back_went old new list p d r f.between.stands.device_is
       (boot_follows p d world told living f r is) allowed notes
 
   pub items_went : (old new : D) (list : Option (List RunnerEntry)) (p : SessionState) (d : Device) (world : Components) (told : Told) (living : List ℕ) →
       HasBroken p d world told living → (r : Record) → IsBreak d r → Allowed d r → Notes old new d r
       → IsTrace entries files may_leave moment left_since old new list list p (Recorded r ∷ [])
-  items_went old new list p d world told living b r is allowed notes = turn_went old new list p d r b.comes.stands.device_is
+  items_went old new list p d world told living b r is allowed notes = back_went old new list p d r b.comes.stands.device_is
       (items_follow p d world told living b r is) allowed notes
 
-  pub turn_doubt : (old new : D) (p : SessionState) (d : Device) (r : Record) → p.device ≡ d → Allowed d r → Notes old new d r →
+  pub back_doubt : (old new : D) (p : SessionState) (d : Device) (r : Record) → p.device ≡ d → Allowed d r → Notes old new d r →
       LeftAt entries may_leave new p (Recorded r ∷ []) over.Disk
-  turn_doubt old new p d r same allowed notes = doubt_at entries files laws old new p d r same allowed notes
+  back_doubt old new p d r same allowed notes = doubt_at entries files laws old new p d r same allowed notes

@@ -11,7 +11,7 @@ use Rattle.components.specs.Turns.{is_unstarted, owes}
 use Rattle.components.specs.Components.{ComponentState, Components}
 use Rattle.histories.specs.Phases.{duty_of}
 use Rattle.histories.specs.States.{SessionState}
-use Rattle.histories.specs.Courses.{Stands}
+use Rattle.histories.specs.Courses.{IsStateOf}
 use Rattle.histories.specs.Follows.{MayChangeIn}
 use Rattle.law_supervisor.specs.Sound.{IsOrderly}
 
@@ -23,9 +23,9 @@ AreReady d fitted = (o : Origin) × (d.origin ≡ Some o) × AreFitted o (duty_o
 abbrev pub RunOn : Device → List ComponentState → Type 0
 RunOn d parts = (o : Origin) → d.origin ≡ Some o → AllRunFor o.platform parts
 
--- Other items may take the place of those that stand: no start is open, and no failure is still to be told.
+-- Other items may take the place of those that stand: no start is open, and no failure is still owed.
 pub record MayEnter (p : SessionState) (d : Device) (world : Components) (told : Told) (living : List ℕ) : Type 0 where
-  pub stands : Stands p d world told living
+  pub stands : IsStateOf p d world told living
   pub stage : MayChangeIn (duty_of d).phase p.generation p
   pub recorded : list_any owes p.world.parts ≡ false
   pub begun : list_any is_unstarted p.world.parts ≡ false

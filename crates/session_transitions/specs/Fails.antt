@@ -15,9 +15,9 @@ use Rattle.components.specs.Turns.{IsQuiet}
 use Rattle.components.specs.Answers.{living_numbers}
 use Rattle.histories.specs.Phases.{duty_of}
 use Rattle.histories.specs.States.{SessionState}
-use Rattle.histories.specs.Courses.{Stands}
+use Rattle.histories.specs.Courses.{IsStateOf}
 use Rattle.histories.specs.Follows.{MayStopAll}
-use Rattle.law_supervisor.specs.Sound.{Differ, IsOrderly}
+use Rattle.law_supervisor.specs.Sound.{AreDistinct, IsOrderly}
 use Rattle.session_boots.specs.Stands.{generation_of}
 
 -- ---- what the plan wants
@@ -39,13 +39,13 @@ IsFailure outcomes.UnableToRollback = ⊤
 
 -- ---- what it leaves
 
--- one record turned the deployment back
-abbrev pub Breaks : Device → Device → Type 0
-Breaks d e = (r : Record) × IsBreak d r × (e ≡ applied d r)
+-- one record began the deployment's rollback
+abbrev pub DeviceAfterBreak : Device → Device → Type 0
+DeviceAfterBreak d e = (r : Record) × IsBreak d r × (e ≡ applied d r)
 
 -- The way back begins: nothing of it was done, no component may act, and all may be stopped.
-pub record IsTurned (p : SessionState) (d : Device) (world : Components) (told : Told) (living : List ℕ) : Type 0 where
-  pub stands : Stands p d world told living
+pub record IsAtRollbackStart (p : SessionState) (d : Device) (world : Components) (told : Told) (living : List ℕ) : Type 0 where
+  pub stands : IsStateOf p d world told living
   pub quiet : IsQuiet p.world
   pub orderly : IsOrderly p.world
   pub generation : p.generation ≡ generation_of p.world
@@ -65,6 +65,6 @@ pub record IsGivenUp (p : SessionState) (world : Components) (told : Told) (livi
   pub boot_end : p.boot_end ≡ None
   pub over : p.over ≡ false
   pub cut : p.cut ≡ false
-  pub differ : Differ (living_numbers p.world.parts)
+  pub differ : AreDistinct (living_numbers p.world.parts)
   pub owners : (n : ℕ) → owner n world.parts ≡ owner n p.world.parts
   pub children : (n : ℕ) → Contains living n ↔ IsSome (owner n p.world.parts)

@@ -5,7 +5,7 @@ ghost use Rattle.histories.specs.Courses.{IsBare};
 ghost use Rattle.histories.specs.Follows.{IsLast};
 ghost use Rattle.histories.specs.TraceEvents.{TraceEvent};
 ghost use Rattle.histories.specs.States.{SessionState, state_after};
-ghost use Rattle.session_boots.specs.Traces.{Acts};
+ghost use Rattle.session_boots.specs.Traces.{ActTrace};
 ghost use Rattle.session_transitions.specs.Fails.{IsGivenUp};
 ghost use Rattle.session_transitions.specs.Kills.{KeepsRest};
 ghost use Rattle.session_boots.specs.Stages.{AsTold};
@@ -15,10 +15,10 @@ use step_runner::Runner;
 
 /// Kills all children that live, where they are. A call that gives up does so: no shutdown step runs.
 pub fn kill_all<R: Runner, S: Supervise>(runner: &mut R, supervisor: &S)
-    requires placed { (p : SessionState) × AsTold R.Runner runner.old (IsGivenUp p (S.world supervisor.now)) }
+    requires from_state { (p : SessionState) × AsTold R.Runner runner.old (IsGivenUp p (S.world supervisor.now)) }
     // Nothing is done but that the moment is asked for and children are killed.
     ensures trace { (p : SessionState) → AsTold R.Runner runner.old (IsGivenUp p (S.world supervisor.now)) →
-        (h : List TraceEvent) × Acts p h (R.list runner.old) (R.list runner.new) × KeepsRest p (state_after p h) × IsBare (state_after p h) ×
+        (h : List TraceEvent) × ActTrace p h (R.list runner.old) (R.list runner.new) × KeepsRest p (state_after p h) × IsBare (state_after p h) ×
         AllByRecursion IsLast h }
     ensures none { R.living runner.new ≡ [] }
 {

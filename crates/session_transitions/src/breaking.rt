@@ -1,7 +1,7 @@
 //! A deployment fails and is rolled back: the way back begins.
 ghost use Rattle.std.specs.Prelude.{◌≡◌, ◌≤◌, [], ℕ, List, IfOk, IsErrOf, OnErr, OnOk};
 ghost use Rattle.nuc_base.specs.Faults.{HasCause, Rose};
-ghost use Rattle.disk_model.specs.Disk.{Leaves};
+ghost use Rattle.disk_model.specs.Disk.{HasLeft};
 ghost use Rattle.records.specs.Stored.{Record};
 ghost use Rattle.device.specs.Lawful.{applied};
 ghost use Rattle.device.specs.Sound.{IsSound};
@@ -17,8 +17,8 @@ ghost use Rattle.session_boots.specs.Lines.{lines_of};
 ghost use Rattle.session_boots.specs.Ends.{IsOne};
 ghost use Rattle.session_boots.specs.Stands.{IsAtBootStage};
 ghost use Rattle.session_startup.specs.Ended.{HasBroken};
-ghost use Rattle.session_transitions.specs.Fails.{Breaks, IsGivenUp, IsTurned};
-ghost use Rattle.deploy_state.specs.Objects.{Holds, KeepsOthers};
+ghost use Rattle.session_transitions.specs.Fails.{DeviceAfterBreak, IsGivenUp, IsAtRollbackStart};
+ghost use Rattle.deploy_state.specs.Objects.{OwnsOver, KeepsOthers};
 ghost use Rattle.session_boots.specs.Stages.{IsTraceOver, LeftOver};
 
 use deploy_state::{Activating, Booting, BrokeOff, Stopped};
@@ -31,13 +31,13 @@ use session_startup::PendingState;
 pub trait BreakOff<J: Journal + Drop>: PendingState<J> {
     /// Records that the deployment failed and is rolled back.
     fn break_off<D: Disk>(self, disk: &mut D) -> Result<BrokeOff<J>, Stopped<J>>
-        requires held { Holds D.Disk J.Journal Self.owns self disk.old }
+        requires held { OwnsOver D.Disk J.Journal Self.owns self disk.old }
         requires may { CanBreakOff (Self.device self) }
         ensures moments { (r : Record) → IsBreak (Self.device self) r →
-            Leaves D.moment D.left_since disk.old disk.new (LeavesEither D.may_leave J.files J.entries disk.old (Self.device self)
+            HasLeft D.moment D.left_since disk.old disk.new (LeavesEither D.may_leave J.files J.entries disk.old (Self.device self)
             (applied (Self.device self) r)) }
         ensures taken { (r : Record) → IsBreak (Self.device self) r → IfOk result (λ s. broken_device s ≡ applied (Self.device self) r) }
-        ensures held { IfOk result (λ s. Holds D.Disk J.Journal OwnsBrokenOff s disk.new) }
+        ensures held { IfOk result (λ s. OwnsOver D.Disk J.Journal OwnsBrokenOff s disk.new) }
         ensures others { KeepsOthers D.Disk J.Journal disk.old disk.new }
         ensures cause { HasCause (D.faults disk.old) (D.faults disk.new) result }
         ensures quiet { OnOk result (D.faults disk.new ≡ D.faults disk.old) };
@@ -61,7 +61,7 @@ pub fn begin_rollback<D: Disk, J: Journal + Drop, B: BreakOff<J>>(
     state: B,
     disk: &mut D,
 ) -> Result<BrokeOff<J>, SessionFault>
-    requires held { Holds D.Disk J.Journal B.owns state disk.old }
+    requires held { OwnsOver D.Disk J.Journal B.owns state disk.old }
     requires sound { IsSound (B.device state) }
     requires may { CanBreakOff (B.device state) }
     // Where all components are stopped no child lives, also where it gives up.
@@ -74,10 +74,10 @@ pub fn begin_rollback<D: Disk, J: Journal + Drop, B: BreakOff<J>>(
     ensures standing { (p : SessionState) → (world : Components) → (told : Told) → (living : List ℕ) → HasBroken p (B.device state) world told living →
         (h : List TraceEvent) × IsTraceOver D.Disk J.Journal disk.old disk.new told.list told.list p h
         × (lines_of p.device (records_of h) ≡ [])
-        × LeftOver D.Disk J.Journal disk.new p h (λ s q. IsTurned q (broken_device s) world told living) result
+        × LeftOver D.Disk J.Journal disk.new p h (λ s q. IsAtRollbackStart q (broken_device s) world told living) result
         × OnErr result (IsGivenUp (state_after p h) world told living) × OnErr result (IsOne (records_of h)) }
-    ensures breaks { IfOk result (λ s. Breaks (B.device state) (broken_device s)) }
-    ensures held { IfOk result (λ s. Holds D.Disk J.Journal OwnsBrokenOff s disk.new) }
+    ensures breaks { IfOk result (λ s. DeviceAfterBreak (B.device state) (broken_device s)) }
+    ensures held { IfOk result (λ s. OwnsOver D.Disk J.Journal OwnsBrokenOff s disk.new) }
     ensures others { KeepsOthers D.Disk J.Journal disk.old disk.new }
     ensures disk { IsErrOf result SessionFault.Disk → Rose (D.faults disk.old) (D.faults disk.new) }
     ensures edge { IsErrOf result SessionFault.Output → ⊥ }

@@ -11,12 +11,12 @@ ghost use Rattle.histories.specs.Courses.{IsBare};
 ghost use Rattle.histories.specs.TraceEvents.{TraceEvent, records_of};
 ghost use Rattle.histories.specs.Phases.{current, draining};
 ghost use Rattle.histories.specs.States.{SessionState, state_after};
-ghost use Rattle.session_boots.specs.Ends.{Lines};
+ghost use Rattle.session_boots.specs.Ends.{HasLines};
 ghost use Rattle.session_boots.specs.Stands.{IsAtBootStage};
-ghost use Rattle.law_termination.specs.Drives.{Drives};
+ghost use Rattle.law_termination.specs.Drives.{AreDriven};
 ghost use Rattle.session_startup.specs.Ended.{HasBroken, HasClosed};
 ghost use Rattle.session_transitions.specs.Fails.{IsFailure, IsGivenUp, is_to_roll_back};
-ghost use Rattle.deploy_state.specs.Objects.{Holds, KeepsOthers};
+ghost use Rattle.deploy_state.specs.Objects.{OwnsOver, KeepsOthers};
 ghost use Rattle.session_boots.specs.Stages.{IsTraceOver, LeftOver};
 
 use components::Supervise;
@@ -47,26 +47,26 @@ pub fn close_failed<D: Disk, J: Journal + Drop, K: Sink, S: Supervise, C: Close<
     sink: &mut K,
     supervisor: &mut S,
 ) -> Result<Idle<J>, SessionFault>
-    requires drives { Drives (S.world supervisor.old) }
-    requires held { Holds D.Disk J.Journal C.owns state disk.old }
+    requires drives { AreDriven (S.world supervisor.old) }
+    requires held { OwnsOver D.Disk J.Journal C.owns state disk.old }
     requires may { Allowed (C.device state) (stored.Closed (C.outcome state)) }
     requires failed { IsFailure (C.outcome state) }
     // Where all components are stopped no child lives, also where it gives up.
     ensures trace { (p : SessionState) → (told : Told) → (living : List ℕ) → IsAtBootStage p (C.device state) (S.world supervisor.old) told living →
         IsOrderly p.world →
         (h : List TraceEvent) × IsTraceOver D.Disk J.Journal disk.old disk.new told.list told.list p h
-        × Lines (K.held sink.old) (K.held sink.new) p.device (records_of h) result
+        × HasLines (K.held sink.old) (K.held sink.new) p.device (records_of h) result
         × LeftOver D.Disk J.Journal disk.new p h (λ s q. HasClosed (C.outcome state) draining h q (idle_device s) (S.world supervisor.new) told living) result
         × OnErr result (IsBare (state_after p h)) }
     // Where the plan's items stand they stay.
     ensures standing { (p : SessionState) → (told : Told) → (living : List ℕ) → HasBroken p (C.device state) (S.world supervisor.old) told living →
         (h : List TraceEvent) × IsTraceOver D.Disk J.Journal disk.old disk.new told.list told.list p h
-        × Lines (K.held sink.old) (K.held sink.new) p.device (records_of h) result
+        × HasLines (K.held sink.old) (K.held sink.new) p.device (records_of h) result
         × LeftOver D.Disk J.Journal disk.new p h (λ s q. HasClosed (C.outcome state) current h q (idle_device s) (S.world supervisor.new) told living) result
         × OnErr result (IsGivenUp (state_after p h) (S.world supervisor.new) told living) }
     ensures taken { IfOk result (λ s. idle_device s ≡ applied (C.device state) (stored.Closed (C.outcome state))) }
-    ensures drives { Drives (S.world supervisor.new) }
-    ensures held { IfOk result (λ s. Holds D.Disk J.Journal OwnsIdle s disk.new) }
+    ensures drives { AreDriven (S.world supervisor.new) }
+    ensures held { IfOk result (λ s. OwnsOver D.Disk J.Journal OwnsIdle s disk.new) }
     ensures others { KeepsOthers D.Disk J.Journal disk.old disk.new }
     ensures disk { IsErrOf result SessionFault.Disk → Rose (D.faults disk.old) (D.faults disk.new) }
     ensures edge { IsErrOf result SessionFault.Output → Rose (K.faults sink.old) (K.faults sink.new) }

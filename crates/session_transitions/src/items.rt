@@ -9,8 +9,8 @@ ghost use Rattle.histories.specs.TraceEvents.{TraceEvent};
 ghost use Rattle.histories.specs.Phases.{duty_of};
 ghost use Rattle.histories.specs.States.{SessionState, state_after};
 ghost use Rattle.histories.specs.Waits.{has_three};
-ghost use Rattle.session_boots.specs.Traces.{Acts};
-ghost use Rattle.law_termination.specs.Drives.{Drives};
+ghost use Rattle.session_boots.specs.Traces.{ActTrace};
+ghost use Rattle.law_termination.specs.Drives.{AreDriven};
 ghost use Rattle.session_startup.specs.Runs.{IsAtTurnStart, rises};
 ghost use Rattle.session_transitions.specs.Enters.{AreReady, MayEnter, RunOn};
 
@@ -28,12 +28,13 @@ pub fn change_items<S: Supervise>(device: &Device, ready: S::Ready, supervisor: 
     requires few { has_three (duty_of (device_view device.now)).counts ≡ false }
     requires sound { IsSound (device_view device.now) }
     requires answered { has_answered (S.world supervisor.old) ≡ true }
-    requires drives { Drives (S.world supervisor.old) }
+    requires drives { AreDriven (S.world supervisor.old) }
     // An item that stands already comes with the steps and the hard needs that it had.
     requires made { RunOn (device_view device.now) (standing (S.world supervisor.old).parts) }
     ensures trace { (p : SessionState) → (told : Told) → (living : List ℕ) → MayEnter p (device_view device.now) (S.world supervisor.old) told living →
-        (h : List TraceEvent) × Acts p h told.list told.list × IsAtTurnStart (state_after p h) (device_view device.now) (S.world supervisor.new) told living }
-    ensures drives { Drives (S.world supervisor.new) }
+        (h : List TraceEvent) × ActTrace p h told.list told.list ×
+        IsAtTurnStart (state_after p h) (device_view device.now) (S.world supervisor.new) told living }
+    ensures drives { AreDriven (S.world supervisor.new) }
 {
     marks_are_least();
     one_platform();

@@ -15,7 +15,7 @@ ghost use Rattle.session_boots.specs.Lines.{lines_of};
 ghost use Rattle.session_boots.specs.Ends.{IsOne};
 ghost use Rattle.session_boots.specs.Stands.{IsOpened};
 ghost use Rattle.session_transitions.specs.Fails.{IsGivenUp};
-ghost use Rattle.deploy_state.specs.Objects.{Holds, KeepsOthers};
+ghost use Rattle.deploy_state.specs.Objects.{OwnsOver, KeepsOthers};
 ghost use Rattle.session_boots.specs.Stages.{IsTraceOver, LeftOver};
 
 use deploy_state::{Activating, Booting};
@@ -29,8 +29,8 @@ pub fn begin_items<D: Disk, J: Journal + Drop>(
     state: Booting<J>,
     disk: &mut D,
 ) -> Result<Activating<J>, SessionFault>
-    requires held { Holds D.Disk J.Journal OwnsBooting state disk.old }
-    requires through { ((duty_of (booting_device state)).turn ≡ None) × (has_failed (booting_device state) ≡ false) }
+    requires held { OwnsOver D.Disk J.Journal OwnsBooting state disk.old }
+    requires through { ((duty_of (booting_device state)).next_bootstrap ≡ None) × (has_failed (booting_device state) ≡ false) }
     ensures trace { (p : SessionState) → (world : Components) → (told : Told) → (living : List ℕ) → IsOpened p (booting_device state) world told living →
         IsOrderly p.world →
         (h : List TraceEvent) × IsTraceOver D.Disk J.Journal disk.old disk.new told.list told.list p h
@@ -38,7 +38,7 @@ pub fn begin_items<D: Disk, J: Journal + Drop>(
         × LeftOver D.Disk J.Journal disk.new p h (λ s q. IsOpened q (activating_device s) world told living) result
         × OnErr result (IsGivenUp (state_after p h) world told living) × OnErr result (IsOne (records_of h)) }
     ensures taken { IfOk result (λ s. activating_device s ≡ applied (booting_device state) stored.Activating) }
-    ensures held { IfOk result (λ s. Holds D.Disk J.Journal OwnsActivating s disk.new) }
+    ensures held { IfOk result (λ s. OwnsOver D.Disk J.Journal OwnsActivating s disk.new) }
     ensures others { KeepsOthers D.Disk J.Journal disk.old disk.new }
     ensures disk { IsErrOf result SessionFault.Disk → Rose (D.faults disk.old) (D.faults disk.new) }
     ensures edge { IsErrOf result SessionFault.Output → ⊥ }

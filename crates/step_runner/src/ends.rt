@@ -1,7 +1,7 @@
 //! The ends that a runner in memory plays.
 ghost use Rattle.std.specs.Prelude.{◌≡◌, ◌≤◌, ◌<◌, ◌+◌, ◌↔◌, ℕ, List, All, Contains, IsTrue, IfSome, IfNone, option_map};
 ghost use Rattle.step_runner.specs.Entries.{without};
-ghost use Rattle.step_runner.specs.Ends.{ComesNext, NoneIsDue, IsDue, IsAt, Best};
+ghost use Rattle.step_runner.specs.Ends.{ComesNext, NoneIsDue, IsDue, IsAt, BestAmong};
 ghost use Rattle.step_runner.specs.declared.ends.ScriptedEnd.{ScriptedEnd};
 
 use nuc_base::Exit;
@@ -36,7 +36,7 @@ fn better_of(
     k: usize,
     end: &ScriptedEnd,
 ) -> Option<(usize, u64)>
-    ensures { (ends : List ScriptedEnd) → IsAt ends k end.now → Best living.now until ends k found → Best living.now until ends (k + 1) result }
+    ensures { (ends : List ScriptedEnd) → IsAt ends k end.now → BestAmong living.now until ends k found → BestAmong living.now until ends (k + 1) result }
 {
     if !is_due(living, end, until) {
         return found;

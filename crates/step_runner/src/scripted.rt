@@ -4,7 +4,7 @@ ghost use Rattle.std.specs.Prelude.{IfNone, OnErr, IsErr, IsNone, min, max};
 ghost use Rattle.std.specs.List.{list_any, list_all};
 ghost use Rattle.std.specs.Str.{bytes_eq};
 ghost use Rattle.nuc_base.specs.Faults.{HasCause, Rose};
-ghost use Rattle.step_runner.specs.Entries.{Notes, Listed, without, Grows};
+ghost use Rattle.step_runner.specs.Entries.{HasNoted, Listed, without, HasGrownBy};
 ghost use Rattle.step_runner.specs.Waits.{waited, WaitLives, WaitTime, WaitFaults, RoseAtLost, is_own, IsOwnEnd};
 ghost use Rattle.step_runner.specs.declared.entries.Seen.TheVariants as seen;
 ghost use Rattle.step_runner.specs.declared.ends.ScriptedEnd.{ScriptedEnd};
@@ -89,7 +89,7 @@ fn on_path_seen(alloc: Global, word: &Text, found: bool) -> Result<Seen, NoMemor
 
 impl ScriptedRunner {
     ghost use Rattle.step_runner.specs.Scripted.{unplayed, refused_starts, present_texts, start_calls, entries_kept, entries_told, moment_asked, is_asked};
-    ghost use Rattle.step_runner.specs.Scripted.{now_of, living_of, started_by, faults_by, Same, in_time};
+    ghost use Rattle.step_runner.specs.Scripted.{now_of, living_of, started_by, faults_by, IsSameButList, in_time};
 
     /// Each exit is one that a child can have by itself.
     pub fn new(
@@ -104,7 +104,7 @@ impl ScriptedRunner {
         ensures present { present_texts result ≡ present }
         ensures calls { start_calls result ≡ 0 }
         ensures list { entries_told result ≡ Some [] }
-        ensures told { moment_asked result ≡ 0 }
+        ensures moment { moment_asked result ≡ 0 }
         ensures asked { is_asked result ≡ false }
         ensures now { now_of result ≡ 0 }
         ensures living { living_of result ≡ [] }
@@ -137,8 +137,8 @@ impl ScriptedRunner {
 
     /// Adds an entry, for which a moment has to be asked for anew.
     fn keep_seen(&mut self, seen: Seen)
-        ensures kept { Notes (Listed entries_told moment_asked is_asked self.old) (Listed entries_told moment_asked is_asked self.new) seen }
-        ensures same { Same self.old self.new }
+        ensures kept { HasNoted (Listed entries_told moment_asked is_asked self.old) (Listed entries_told moment_asked is_asked self.new) seen }
+        ensures same { IsSameButList self.old self.new }
     {
         let entry = RunnerEntry {
             moment: self.told,
@@ -152,9 +152,9 @@ impl ScriptedRunner {
     /// Tells the list no more.
     fn lose(&mut self)
         ensures lost { entries_told self.new ≡ None }
-        ensures told { moment_asked self.new ≡ moment_asked self.old }
+        ensures moment { moment_asked self.new ≡ moment_asked self.old }
         ensures asked { is_asked self.new ≡ false }
-        ensures same { Same self.old self.new }
+        ensures same { IsSameButList self.old self.new }
     {
         self.is_modelled = false;
         self.asked = false;
@@ -162,9 +162,9 @@ impl ScriptedRunner {
 
     /// Adds an entry where there was memory for it.
     fn keep(&mut self, seen: Result<Seen, NoMemory>)
-        ensures kept { (s : Seen) → IfOk seen (λ x. x ≡ s) → Notes (Listed entries_told moment_asked is_asked self.old)
+        ensures kept { (s : Seen) → IfOk seen (λ x. x ≡ s) → HasNoted (Listed entries_told moment_asked is_asked self.old)
             (Listed entries_told moment_asked is_asked self.new) s }
-        ensures same { Same self.old self.new }
+        ensures same { IsSameButList self.old self.new }
     {
         match seen {
             Ok(seen) => self.keep_seen(seen),
@@ -173,36 +173,36 @@ impl ScriptedRunner {
     }
 
     fn keep_started(&mut self, command: &Command, child: u64)
-        ensures kept { Notes (Listed entries_told moment_asked is_asked self.old) (Listed entries_told moment_asked is_asked self.new)
+        ensures kept { HasNoted (Listed entries_told moment_asked is_asked self.old) (Listed entries_told moment_asked is_asked self.new)
             (seen.Started child command.now) }
-        ensures same { Same self.old self.new }
+        ensures same { IsSameButList self.old self.new }
     {
         let seen = started_seen(self.alloc, command, child);
         self.keep(seen);
     }
 
     fn keep_refused(&mut self, command: &Command)
-        ensures kept { Notes (Listed entries_told moment_asked is_asked self.old) (Listed entries_told moment_asked is_asked self.new)
+        ensures kept { HasNoted (Listed entries_told moment_asked is_asked self.old) (Listed entries_told moment_asked is_asked self.new)
             (seen.Refused command.now) }
-        ensures same { Same self.old self.new }
+        ensures same { IsSameButList self.old self.new }
     {
         let seen = refused_seen(self.alloc, command);
         self.keep(seen);
     }
 
     fn keep_exists(&mut self, path: &Text, found: bool)
-        ensures kept { Notes (Listed entries_told moment_asked is_asked self.old) (Listed entries_told moment_asked is_asked self.new)
+        ensures kept { HasNoted (Listed entries_told moment_asked is_asked self.old) (Listed entries_told moment_asked is_asked self.new)
             (seen.Exists path.now found) }
-        ensures same { Same self.old self.new }
+        ensures same { IsSameButList self.old self.new }
     {
         let seen = exists_seen(self.alloc, path, found);
         self.keep(seen);
     }
 
     fn keep_on_path(&mut self, word: &Text, found: bool)
-        ensures kept { Notes (Listed entries_told moment_asked is_asked self.old) (Listed entries_told moment_asked is_asked self.new)
+        ensures kept { HasNoted (Listed entries_told moment_asked is_asked self.old) (Listed entries_told moment_asked is_asked self.new)
             (seen.OnPath word.now found) }
-        ensures same { Same self.old self.new }
+        ensures same { IsSameButList self.old self.new }
     {
         let seen = on_path_seen(self.alloc, word, found);
         self.keep(seen);
@@ -253,7 +253,7 @@ impl ScriptedRunner {
 
 impl Runner for ScriptedRunner {
     ghost use Rattle.step_runner.specs.Scripted.{unplayed, refused_starts, present_texts, start_calls, entries_kept, entries_told, moment_asked, is_asked};
-    ghost use Rattle.step_runner.specs.Scripted.{now_of, living_of, started_by, faults_by, Same, Plays};
+    ghost use Rattle.step_runner.specs.Scripted.{now_of, living_of, started_by, faults_by, IsSameButList, WaitOutcome};
 
     ghost list = { entries_told };
 
@@ -270,12 +270,12 @@ impl Runner for ScriptedRunner {
     ghost faults = { faults_by };
 
     fn start(&mut self, command: &Command) -> Result<u64, RunnerFault>
-        ensures ok { IfOk result (λ n. Notes (Listed entries_told moment_asked is_asked self.old) (Listed entries_told moment_asked is_asked self.new)
+        ensures ok { IfOk result (λ n. HasNoted (Listed entries_told moment_asked is_asked self.old) (Listed entries_told moment_asked is_asked self.new)
             (seen.Started n command.now)) }
         ensures number { IfOk result (λ n. (n ≡ started_by self.old) × (started_by self.new ≡ n + 1)) }
         ensures lives { IfOk result (λ n. living_of self.new ≡ n ∷ living_of self.old) }
         ensures fresh { IfOk result (λ n. ¬ Contains (living_of self.old) n) }
-        ensures err { OnErr result (Notes (Listed entries_told moment_asked is_asked self.old) (Listed entries_told moment_asked is_asked self.new)
+        ensures err { OnErr result (HasNoted (Listed entries_told moment_asked is_asked self.old) (Listed entries_told moment_asked is_asked self.new)
             (seen.Refused command.now)) }
         ensures same { OnErr result ((living_of self.new ≡ living_of self.old) × (started_by self.new ≡ started_by self.old)) }
         ensures time { now_of self.old ≤ now_of self.new }
@@ -299,13 +299,14 @@ impl Runner for ScriptedRunner {
 
     fn wait(&mut self, limit: u64) -> Waited
         requires { limit ≤ 1000000000 }
-        ensures notes { Notes (Listed entries_told moment_asked is_asked self.old) (Listed entries_told moment_asked is_asked self.new) (waited limit result) }
+        ensures notes { HasNoted (Listed entries_told moment_asked is_asked self.old) (Listed entries_told moment_asked is_asked self.new)
+            (waited limit result) }
         ensures lives { WaitLives (living_of self.old) (living_of self.new) result }
         ensures exit { IsOwnEnd result }
         ensures time { WaitTime (now_of self.old) (now_of self.new) limit result }
         ensures same { started_by self.new ≡ started_by self.old }
         ensures faults { WaitFaults (faults_by self.old) (faults_by self.new) result }
-        ensures plays { Plays limit self.old self.new result }
+        ensures plays { WaitOutcome limit self.old self.new result }
         ensures calls { start_calls self.new ≡ start_calls self.old }
         ensures given { (refused_starts self.new ≡ refused_starts self.old) × (present_texts self.new ≡ present_texts self.old) }
     {
@@ -327,7 +328,7 @@ impl Runner for ScriptedRunner {
 
     fn kill(&mut self, child: u64)
         requires { Contains (living_of self.old) child }
-        ensures notes { Notes (Listed entries_told moment_asked is_asked self.old) (Listed entries_told moment_asked is_asked self.new) (seen.Killed child) }
+        ensures notes { HasNoted (Listed entries_told moment_asked is_asked self.old) (Listed entries_told moment_asked is_asked self.new) (seen.Killed child) }
         ensures lives { living_of self.new ≡ without child (living_of self.old) }
         ensures time { now_of self.old ≤ now_of self.new }
         ensures same { started_by self.new ≡ started_by self.old }
@@ -340,7 +341,7 @@ impl Runner for ScriptedRunner {
     }
 
     fn moment(&mut self) -> u64
-        ensures told { moment_asked self.new ≡ result }
+        ensures moment { moment_asked self.new ≡ result }
         ensures now { now_of self.new ≡ result }
         ensures later { now_of self.old ≤ result }
         ensures in_time { result < 2 ^ 62 }
@@ -349,7 +350,7 @@ impl Runner for ScriptedRunner {
         ensures lives { living_of self.new ≡ living_of self.old }
         ensures same { started_by self.new ≡ started_by self.old }
         ensures faults { faults_by self.old ≤ faults_by self.new }
-        ensures rest { Same self.old self.new }
+        ensures rest { IsSameButList self.old self.new }
     {
         self.told = self.clock;
         self.asked = true;
@@ -357,14 +358,14 @@ impl Runner for ScriptedRunner {
     }
 
     fn exists(&mut self, path: &Text) -> bool
-        ensures notes { Notes (Listed entries_told moment_asked is_asked self.old) (Listed entries_told moment_asked is_asked self.new)
+        ensures notes { HasNoted (Listed entries_told moment_asked is_asked self.old) (Listed entries_told moment_asked is_asked self.new)
             (seen.Exists path.now result) }
         ensures lives { living_of self.new ≡ living_of self.old }
         ensures time { now_of self.old ≤ now_of self.new }
         ensures same { started_by self.new ≡ started_by self.old }
         ensures faults { faults_by self.old ≤ faults_by self.new }
         ensures present { result ≡ list_any (λ t. bytes_eq t path.now) (present_texts self.old) }
-        ensures rest { Same self.old self.new }
+        ensures rest { IsSameButList self.old self.new }
     {
         let found = self.present.as_slice().contains(path);
         self.keep_exists(path, found);
@@ -372,14 +373,14 @@ impl Runner for ScriptedRunner {
     }
 
     fn on_path(&mut self, word: &Text) -> bool
-        ensures notes { Notes (Listed entries_told moment_asked is_asked self.old) (Listed entries_told moment_asked is_asked self.new)
+        ensures notes { HasNoted (Listed entries_told moment_asked is_asked self.old) (Listed entries_told moment_asked is_asked self.new)
             (seen.OnPath word.now result) }
         ensures lives { living_of self.new ≡ living_of self.old }
         ensures time { now_of self.old ≤ now_of self.new }
         ensures same { started_by self.new ≡ started_by self.old }
         ensures faults { faults_by self.old ≤ faults_by self.new }
         ensures present { result ≡ list_any (λ t. bytes_eq t word.now) (present_texts self.old) }
-        ensures rest { Same self.old self.new }
+        ensures rest { IsSameButList self.old self.new }
     {
         let found = self.present.as_slice().contains(word);
         self.keep_on_path(word, found);

@@ -16,8 +16,8 @@ use Rattle.components.specs.Deadlines.{has_passed}
 use Rattle.components.specs.Turns.{may_act, may_begin, may_retry, may_stop, is_late, is_to_start, owes, IsNext}
 use Rattle.components.specs.Rows.{is_stop_ready}
 use Rattle.components.specs.Lives.{lived_at}
-use Rattle.components.specs.Events.{handed_at, killed, told_at, is_late_child, gone_by, kill_event_at}
-use Rattle.components.specs.Acts.{MayMove, MayKill, HasStart, kills, spares, is_stop_due, is_kill_due, Move, Quietly, HandsOut, NextAct, OwesAt}
+use Rattle.components.specs.Events.{handed_at, killed, heard_at, is_late_child, gone_by, kill_event_at}
+use Rattle.components.specs.Acts.{MayMove, MayKill, HasStart, kills, spares, is_stop_due, is_kill_due, Move, MovesInOrder, HandsOut, NextAct, OwesAt}
 use Rattle.components.specs.Answers.{living_numbers, child_numbers}
 use Rattle.components.specs.Readied.{AreApart, AreNamesApart, IsKept}
 use Rattle.components.specs.Whole.{AreWhole, work}
@@ -182,8 +182,8 @@ kept_handed : (k : ℕ) (w : Components) → IsKept w → IsKept (handed_at k w)
 kept_handed k w h = kept_kids w (handed_at k w) h (kids_changed (λ p. record p { handed = true }) (λ p. refl) k w.parts)
     (stay_changed (λ p. record p { handed = true }) (λ p i. (refl, i)) k w.parts h.named) refl
 
-kept_told : (k : ℕ) (w : Components) → IsKept w → IsKept (told_at k w)
-kept_told k w h = kept_kids w (told_at k w) h (kids_changed (λ p. record p { owed = None }) (λ p. refl) k w.parts)
+kept_told : (k : ℕ) (w : Components) → IsKept w → IsKept (heard_at k w)
+kept_told k w h = kept_kids w (heard_at k w) h (kids_changed (λ p. record p { owed = None }) (λ p. refl) k w.parts)
     (stay_changed (λ p. record p { owed = None }) (λ p i. (refl, i)) k w.parts h.named) refl
 
 -- the components with what is kept of them
@@ -193,8 +193,8 @@ pub record AreSound (w : Components) : Type 0 where
 
 -- ---- moves that leave nothing outside, one after another
 
-quietly_more : (w v : Components) (ms : List Move) (k : ℕ) (e : LifeEvent) → Quietly w ms v → IsNext v k → MayMove v k e →
-    Quietly w (ms ++ record { who = k; what = e } ∷ []) (lived_at k e v)
+quietly_more : (w v : Components) (ms : List Move) (k : ℕ) (e : LifeEvent) → MovesInOrder w ms v → IsNext v k → MayMove v k e →
+    MovesInOrder w (ms ++ record { who = k; what = e } ∷ []) (lived_at k e v)
 quietly_more w v [] k e q n m = (
   subst (λ (u : Components). IsNext u k) q n,
   subst (λ (u : Components). MayMove u k e) q m,
@@ -205,15 +205,15 @@ quietly_more w v (x ∷ ms) k e q n m = (q.0, q.1, quietly_more (lived_at x.who 
 -- how far the components have come
 pub record Turns (w v : Components) : Type 0 where
   pub sound : AreSound v
-  pub told : list_any owes v.parts ≡ false
+  pub owes_none : list_any owes v.parts ≡ false
   pub made : List Move
-  pub quietly : Quietly w made v
+  pub quietly : MovesInOrder w made v
 
 pub no_turns : (w : Components) → IsKept w → AreWhole w.parts → list_any owes w.parts ≡ false → Turns w w
-no_turns w h a t = record { sound = record { kept = h; whole = a }; told = t; made = []; quietly = refl }
+no_turns w h a t = record { sound = record { kept = h; whole = a }; owes_none = t; made = []; quietly = refl }
 
 is_next : (w v : Components) (k : ℕ) (d : Deed) → Turns w v → IsFirst v (Some (k, d)) → IsNext v k
-is_next w v k d t f = record { told = t.told; least = f.0 }
+is_next w v k d t f = record { owes_none = t.owes_none; least = f.0 }
 
 pub turn_more : (w v u : Components) (k : ℕ) (d : Deed) (act : Option Act) → Turns w v → IsFirst v (Some (k, d)) → IsDone v k d act u → is_some act ≡ false →
     Turns w u × (work u.parts < work v.parts)
@@ -221,9 +221,9 @@ turn_more w v u k (Moves e) act t f d n =
     let i : u ≡ lived_at k e v = d.1 in (
       record {
         sound = subst AreSound (sym i) (record { kept = kept_lived k e v t.sound.kept; whole = plain_whole k e v (move_no_launch v k e f.1) t.sound.whole });
-        told = subst (λ (x : Components). list_any owes x.parts ≡ false) (sym i) (move_owes v k e f.1 t.told);
+        owes_none = subst (λ (x : Components). list_any owes x.parts ≡ false) (sym i) (move_owes v k e f.1 t.owes_none);
         made = t.made ++ record { who = k; what = e } ∷ [];
-        quietly = subst (Quietly w (t.made ++ record { who = k; what = e } ∷ [])) (sym i)
+        quietly = subst (MovesInOrder w (t.made ++ record { who = k; what = e } ∷ [])) (sym i)
             (quietly_more w v t.made k e t.quietly (is_next w v k (Moves e) t f) f.1);
       },
       subst (λ (x : Components). work x.parts < work v.parts) (sym i) (move_works v k e f.1),
@@ -260,7 +260,7 @@ turn_last w v u k (Kills m) act t f d n =
     )
 
 pub turns_over : (w v : Components) → Turns w v → IsFirst v None → NextAct w None v
-turns_over w v t f = record { made = t.made; seen = v; quietly = t.quietly; hands = (record { told = t.told; none = f }, refl) }
+turns_over w v t f = record { made = t.made; seen = v; quietly = t.quietly; hands = (record { owes_none = t.owes_none; none = f }, refl) }
 
 -- ---- failures
 
@@ -297,22 +297,22 @@ owes_at w k s e b u h =
     at_from (λ p. (p.owed ≡ Some (s, e)) × (is_broken p.life.state ≡ b) × (place_of (component_name p) w.parts ≡ Some k)) k w.parts x.0 x.1
     (y.0, y.1, place_is 0 k x.0 w.parts x.1 u ∙ ap (λ (n : ℕ). Some n) (let z : 0 + k ≡ k = omega arith in z))
 
-pub tells : (w v : Components) (k : ℕ) (act : Act) → AreNamesApart (map component_name w.parts) → IsOwed k w.parts act → v ≡ told_at k w →
+pub tells : (w v : Components) (k : ℕ) (act : Act) → AreNamesApart (map component_name w.parts) → IsOwed k w.parts act → v ≡ heard_at k w →
     HandsOut w (Some act) v
 tells w v k (acts.Start i t) u o h = absurd o
 tells w v k (acts.Kill n) u o h = absurd o
 tells w v k (acts.Failed i t e) u o h = (
   owes_at w i t e false u
       (subst (λ (j : ℕ). At j (λ p. (p.owed ≡ Some (t, e)) × (is_broken p.life.state ≡ false)) w.parts) (sym o.0) o.1),
-  h ∙ ap (λ (j : ℕ). told_at j w) (sym o.0),
+  h ∙ ap (λ (j : ℕ). heard_at j w) (sym o.0),
 )
 tells w v k (acts.Broke i t e) u o h = (
   owes_at w i t e true u
       (subst (λ (j : ℕ). At j (λ p. (p.owed ≡ Some (t, e)) × (is_broken p.life.state ≡ true)) w.parts) (sym o.0) o.1),
-  h ∙ ap (λ (j : ℕ). told_at j w) (sym o.0),
+  h ∙ ap (λ (j : ℕ). heard_at j w) (sym o.0),
 )
 
-pub told_sound : (k : ℕ) (w v : Components) → v ≡ told_at k w → AreSound w → AreSound v
+pub told_sound : (k : ℕ) (w v : Components) → v ≡ heard_at k w → AreSound w → AreSound v
 told_sound k w v e s = subst AreSound (sym e) (record { kept = kept_told k w s.kept; whole = told_whole k w.parts s.whole })
 
 pub told_length : (k : ℕ) (ps qs : List ComponentState) → qs ≡ changed_at k (λ p. record p { owed = None }) ps → length qs ≡ length ps

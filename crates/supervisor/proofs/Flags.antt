@@ -10,8 +10,8 @@ use Rattle.std.specs.Prelude.{◌&&◌, ◌||◌, not, if◌then◌else◌, slic
 use Rattle.components.specs.Components.{ComponentState, At, component_name}
 use Rattle.components.specs.Changes.{is_replacing, replanned}
 use Rattle.components.specs.Marks.{Flagged, grown, reaching, is_flagged, needs_flagged, flagged, flagged_at, marked, restarted, may_restart, may_replan}
-use Rattle.components.specs.Marks.{Within, IsClosedBack}
-use Rattle.components.specs.Flags.{with_flags, free, may_by, joins, Under, Grows, Spreads}
+use Rattle.components.specs.Marks.{AreFlagsWithin, IsClosedBack}
+use Rattle.components.specs.Flags.{with_flags, free, may_by, joins, IsInClosure, HasSpread, SpreadOutcome}
 use Rattle.components.proofs.Each.{at_more}
 use Rattle.components.proofs.Closes.{within_refl, trans, needs_more, most, closes, least}
 
@@ -25,7 +25,7 @@ pair_is : (f h : ComponentState × Bool) → f.0 ≡ h.0 → f.1 ≡ h.1 → f �
 pair_is f h e b = ap (λ (p : ComponentState). (p, f.1)) e ∙ ap (λ (x : Bool). (h.0, x)) b
 
 -- as flags go both ways they are the same
-pub same_flags : (fs hs : Flagged) → Within fs hs → Within hs fs → fs ≡ hs
+pub same_flags : (fs hs : Flagged) → AreFlagsWithin fs hs → AreFlagsWithin hs fs → fs ≡ hs
 same_flags [] [] v w = refl
 same_flags [] (h ∷ hs) v w = absurd v
 same_flags (f ∷ fs) [] v w = absurd v
@@ -35,7 +35,7 @@ same_flags (f ∷ fs) (h ∷ hs) v w =
 
 -- ---- one more flag
 
-pub within_set : (ps : List ComponentState) (bs : List Bool) (k : ℕ) → Within (with_flags ps bs) (with_flags ps (set bs k true))
+pub within_set : (ps : List ComponentState) (bs : List Bool) (k : ℕ) → AreFlagsWithin (with_flags ps bs) (with_flags ps (set bs k true))
 within_set [] bs k = tt
 within_set (p ∷ ps) [] k = tt
 within_set (p ∷ ps) (b ∷ bs) zero = (refl, (λ e. refl), within_refl (with_flags ps bs))
@@ -47,8 +47,8 @@ flag_is [] k = false
 flag_is (h ∷ hs) zero = h.1
 flag_is (h ∷ hs) (suc k) = flag_is hs k
 
-set_under : (ps : List ComponentState) (bs : List Bool) (hs : Flagged) (k : ℕ) → Within (with_flags ps bs) hs →
-    (k < length ps → k < length bs → flag_is hs k ≡ true) → Within (with_flags ps (set bs k true)) hs
+set_under : (ps : List ComponentState) (bs : List Bool) (hs : Flagged) (k : ℕ) → AreFlagsWithin (with_flags ps bs) hs →
+    (k < length ps → k < length bs → flag_is hs k ≡ true) → AreFlagsWithin (with_flags ps (set bs k true)) hs
 set_under [] bs hs k w f = w
 set_under (p ∷ ps) [] hs k w f = w
 set_under (p ∷ ps) (b ∷ bs) [] k w f = absurd w
@@ -63,7 +63,8 @@ tail_is : (all : Flagged) (h : ComponentState × Bool) (hs : Flagged) → grown 
 tail_is all h hs c = cc
 
 -- in what is closed, one that needs a flagged one has a flag
-closed_flag : (all hs : Flagged) (ps : List ComponentState) (bs : List Bool) (k : ℕ) → grown all hs ≡ hs → Within (with_flags ps bs) hs → k < length ps →
+closed_flag : (all hs : Flagged) (ps : List ComponentState) (bs : List Bool) (k : ℕ) → grown all hs ≡ hs → AreFlagsWithin (with_flags ps bs) hs
+    → k < length ps →
     k < length bs → At k (λ p. needs_flagged p.fitted.hard all ≡ true) ps → flag_is hs k ≡ true
 closed_flag all hs [] bs k c w l m n = absurd n
 closed_flag all hs (p ∷ ps) [] k c w l m n = absurd (omega arith)
@@ -75,22 +76,23 @@ closed_flag all (h ∷ hs) (p ∷ ps) (b ∷ bs) (suc k) c w l m n = closed_flag
 
 -- ---- a pass
 
-pub join_under : (ps : List ComponentState) (old bs : List Bool) (k : ℕ) → Under ps old bs → At k (λ p. needs_flagged p.fitted.hard (with_flags ps bs) ≡ true)
-    ps → Under ps old (set bs k true)
+pub join_under : (ps : List ComponentState) (old bs : List Bool) (k : ℕ) → IsInClosure ps old bs
+    → At k (λ p. needs_flagged p.fitted.hard (with_flags ps bs) ≡ true)
+    ps → IsInClosure ps old (set bs k true)
 join_under ps old bs k u n = λ hs w c.
     let v = u hs w c in
     set_under ps bs hs k v (λ l m. closed_flag hs hs ps bs k c v l m
     (at_more (λ p. needs_flagged p.fitted.hard (with_flags ps bs) ≡ true) (λ p. needs_flagged p.fitted.hard hs ≡ true) ps k
     (λ p e. needs_more p.fitted.hard (with_flags ps bs) hs v e) n))
 
-under_refl : (ps : List ComponentState) (bs : List Bool) → Under ps bs bs
+under_refl : (ps : List ComponentState) (bs : List Bool) → IsInClosure ps bs bs
 under_refl ps bs = λ hs w c. w
 
 -- a pass so far: up to the place none joins, where none joined before
 pub record Passes (ps : List ComponentState) (old bs : List Bool) (grew : Bool) (k : ℕ) : Type 0 where
   pub many : length bs ≡ length old
-  pub more : Within (with_flags ps old) (with_flags ps bs)
-  pub under : Under ps old bs
+  pub more : AreFlagsWithin (with_flags ps old) (with_flags ps bs)
+  pub under : IsInClosure ps old bs
   pub fewer : grew ≡ true → free bs < free old
   pub same : grew ≡ false → bs ≡ old
   pub none : grew ≡ false → (j : ℕ) → j < k → At j (λ p. joins ps old j p ≡ false) ps
@@ -191,7 +193,7 @@ closed_all all (p ∷ ps) (b ∷ bs) m f =
     ap (λ (x : Bool). (p, x) ∷ grown all (with_flags ps bs)) e ∙ ap (λ (fs : Flagged). (p, b) ∷ fs) i
 
 pub spreads_of : (ps : List ComponentState) (old bs : List Bool) (grew : Bool) (k : ℕ) → length old ≡ length ps → length ps ≤ k → Passes ps old bs grew k →
-    Spreads ps old bs grew
+    SpreadOutcome ps old bs grew
 spreads_of ps old bs grew k m l p = record {
   many = p.many;
   more = p.more;
@@ -203,22 +205,23 @@ spreads_of ps old bs grew k m l p = record {
 
 -- ---- all passes
 
-pub grows_none : (ps : List ComponentState) (bs : List Bool) → Grows ps bs bs
+pub grows_none : (ps : List ComponentState) (bs : List Bool) → HasSpread ps bs bs
 grows_none ps bs = record { many = refl; more = within_refl (with_flags ps bs); under = under_refl ps bs }
 
-pub grows_more : (ps : List ComponentState) (first bs new : List Bool) → Grows ps first bs → Grows ps bs new → Grows ps first new
+pub grows_more : (ps : List ComponentState) (first bs new : List Bool) → HasSpread ps first bs → HasSpread ps bs new → HasSpread ps first new
 grows_more ps first bs new g h = record {
   many = h.many ∙ g.many;
   more = trans (with_flags ps first) (with_flags ps bs) (with_flags ps new) g.more h.more;
   under = λ hs w c. h.under hs (g.under hs w c) c;
 }
 
-pub grows_spread : (ps : List ComponentState) (first bs new : List Bool) (grew : Bool) → Grows ps first bs → Spreads ps bs new grew → Grows ps first new
+pub grows_spread : (ps : List ComponentState) (first bs new : List Bool) (grew : Bool) → HasSpread ps first bs → SpreadOutcome ps bs new grew
+    → HasSpread ps first new
 grows_spread ps first bs new grew g s = grows_more ps first bs new g (record { many = s.many; more = s.more; under = s.under })
 
 -- one that needs a flagged one gets a flag
 pub grows_join : (ps : List ComponentState) (bs : List Bool) (k : ℕ) → At k (λ p. needs_flagged p.fitted.hard (with_flags ps bs) ≡ true) ps →
-    Grows ps bs (set bs k true)
+    HasSpread ps bs (set bs k true)
 grows_join ps bs k n = record {
   many = length-set bs k;
   more = within_set ps bs k;
@@ -230,7 +233,7 @@ with_length [] bs e = refl
 with_length (p ∷ ps) [] e = absurd (omega (arith, e))
 with_length (p ∷ ps) (b ∷ bs) e = ap suc (with_length ps bs (omega (arith, e)))
 
-pub reached : (ps : List ComponentState) (first bs : List Bool) → length first ≡ length ps → Grows ps first bs → IsClosedBack (with_flags ps bs) →
+pub reached : (ps : List ComponentState) (first bs : List Bool) → length first ≡ length ps → HasSpread ps first bs → IsClosedBack (with_flags ps bs) →
     with_flags ps bs ≡ reaching (length ps) (with_flags ps first)
 reached ps first bs m r c =
     let fs = with_flags ps first in

@@ -12,7 +12,7 @@ use Rattle.lifecycle.specs.declared.kinds.After.{After}
 use Rattle.lifecycle.specs.declared.kinds.LifeEvent.TheVariants as event
 use Rattle.components.specs.Components.{At, ComponentState, Components, component_name, has_orphan, is_again, is_gone, is_to_stop, place_from, place_of}
 use Rattle.components.specs.Flags.{free}
-use Rattle.components.specs.Marks.{Flagged, IsClosedBack, Within, flagged, grown, is_flagged, needs_flagged}
+use Rattle.components.specs.Marks.{Flagged, IsClosedBack, AreFlagsWithin, flagged, grown, is_flagged, needs_flagged}
 use Rattle.components.specs.Readied.{AreNamesApart}
 use Rattle.components.specs.Rows.{is_stop_ready}
 use Rattle.components.specs.Turns.{dependents, direct_dependents, hard_needs, is_held_far, is_held_for, is_unstarted, may_stop, with_hard_needs}
@@ -20,7 +20,8 @@ use Rattle.components.proofs.Closes.{closes, flagged_more, least, most}
 use Rattle.components.proofs.Each.{at_below}
 use Rattle.components.proofs.Held.{any_flagged, within_none}
 use Rattle.components.proofs.Names.{name_same, same_name}
-use Rattle.supervisor.specs.Holds.{Adds, AreAskedHeld, AreHeld, AreNamesHeld, HaveFlags, Holds, IsClosedAhead, IsFlagged, ShowAsked, ShowHeld, asks_for_good}
+use Rattle.supervisor.specs.Holds.{AreFlagsAdded, AreAskedHeld, AreHeld, AreNamesHeld, HaveFlags}
+use Rattle.supervisor.specs.Holds.{HasHeld, IsClosedAhead, IsFlagged, ShowAsked, ShowHeld, asks_for_good}
 use Rattle.supervisor.specs.Holds.{holds_others}
 use Rattle.supervisor.proofs.Deeds.{part_at, place_is}
 
@@ -37,7 +38,7 @@ by_none : (a b : Bool) → (b ≡ false → a ≡ false) → a ≡ true → b �
 by_none a true f e = refl
 by_none a false f e = let g : a ≡ false = f refl in absurd (cc)
 
-within_any : (t : ComponentState → Bool) (fs hs : Flagged) → Within fs hs → any_flagged t fs ≡ true → any_flagged t hs ≡ true
+within_any : (t : ComponentState → Bool) (fs hs : Flagged) → AreFlagsWithin fs hs → any_flagged t fs ≡ true → any_flagged t hs ≡ true
 within_any t fs hs w e = by_none (any_flagged t fs) (any_flagged t hs) (within_none t fs hs w) e
 
 direct_any : (n : List ℕ) (k : ℕ) (ps : List ComponentState) (q : ComponentState) → slice_get ps k ≡ Some q → is_to_stop q ≡ true →
@@ -86,8 +87,9 @@ tail_flags : (all hs : Flagged) (h : ComponentState × Bool) → grown all (h �
 tail_flags all hs h c = ap (λ (fs : Flagged). elim fs [ [] ↦ [] | ◌∷◌ f gs ↦ gs ]) c
 
 -- in what is closed and has this name, those have a flag that need it
-closed_needs : (n m : List ℕ) (all hs : Flagged) (qs : List ComponentState) → Within (flagged (needs n) qs) hs → grown all hs ≡ hs → is_flagged m all ≡ true →
-    Within (flagged (needs m) qs) hs
+closed_needs : (n m : List ℕ) (all hs : Flagged) (qs : List ComponentState) → AreFlagsWithin (flagged (needs n) qs) hs → grown all hs ≡ hs
+    → is_flagged m all ≡ true →
+    AreFlagsWithin (flagged (needs m) qs) hs
 closed_needs n m all [] [] w c e = tt
 closed_needs n m all (h ∷ hs) [] w c e = absurd w
 closed_needs n m all [] (q ∷ qs) w c e = absurd w
@@ -105,10 +107,10 @@ held_through n k ps q e s h =
     let m : List ℕ = component_name q in
     let first : Flagged = direct_dependents n ps in
     let all : Flagged = dependents n ps in
-    let w : Within first all = most (length first) first in
+    let w : AreFlagsWithin first all = most (length first) first in
     let c : IsClosedBack all = closes first in
     let f : is_flagged m all ≡ true = flagged_more m first all w (direct_flag n k ps q e h) in
-    let v : Within (direct_dependents m ps) all = closed_needs n m all all (map with_hard_needs ps) w c f in
+    let v : AreFlagsWithin (direct_dependents m ps) all = closed_needs n m all all (map with_hard_needs ps) w c f in
     within_any is_to_stop (dependents m ps) all (least (length (direct_dependents m ps)) (direct_dependents m ps) all v c) s
 
 all_named : (P : List ℕ → Type 0) (ns : List (List ℕ)) → ((n : List ℕ) → list_any (bytes_eq n) ns ≡ true → P n) → AllByRecursion P ns
@@ -149,7 +151,7 @@ not_true true f = absurd (f refl)
 not_true false f = refl
 
 unheld_first : (n : List ℕ) (f : ℕ → Bool) (ps : List ComponentState) → Hold f ps (λ ns. list_any (bytes_eq n) ns ≡ true → ⊥) →
-    Within (flagged (needs n) (map with_hard_needs ps)) (unheld f ps)
+    AreFlagsWithin (flagged (needs n) (map with_hard_needs ps)) (unheld f ps)
 unheld_first n f [] h = tt
 unheld_first n f (p ∷ ps) h = (
   refl,
@@ -218,7 +220,7 @@ closed_held ps bs u a k c e n =
     let f : ℕ → Bool = λ i. get_or bs i false in
     let m : List ℕ = component_name c in
     let hs : Flagged = unheld f ps in
-    let w : Within (direct_dependents m ps) hs = unheld_first m f ps (λ i p g h x.
+    let w : AreFlagsWithin (direct_dependents m ps) hs = unheld_first m f ps (λ i p g h x.
     let y : get_or bs k false ≡ true = flag_of ps bs k c m u e refl (one_named (IsFlagged ps bs) m (hard_needs p) (a i p g h) x) in
     clash (get_or bs k false) y n) in
     let d : IsClosedBack hs = unheld_closed hs f ps (λ i p g h. none_flagged (hard_needs p) hs (all_more (IsFlagged ps bs) (λ z. is_flagged z hs ≡ false)
@@ -237,23 +239,23 @@ shows ps bs u a h = λ k p e. both (get_or bs k false) (is_held_far (component_n
 
 -- ---- one step
 
-pub adds_none : (bs : List Bool) → Adds bs bs
+pub adds_none : (bs : List Bool) → AreFlagsAdded bs bs
 adds_none bs = record { many = refl; more = λ k e. e; fewer = omega arith }
 
-pub adds_more : (ls bs cs : List Bool) → Adds ls bs → Adds bs cs → Adds ls cs
+pub adds_more : (ls bs cs : List Bool) → AreFlagsAdded ls bs → AreFlagsAdded bs cs → AreFlagsAdded ls cs
 adds_more ls bs cs a b =
     let f = a.fewer in
     let g = b.fewer in
     record { many = b.many ∙ a.many; more = λ k e. b.more k (a.more k e); fewer = omega (arith, f, g) }
 
-pub holds_none : (ps : List ComponentState) (bs : List Bool) (had : Bool) → Holds ps bs bs had had
+pub holds_none : (ps : List ComponentState) (bs : List Bool) (had : Bool) → HasHeld ps bs bs had had
 holds_none ps bs had = record { adds = adds_none bs; kept = λ e. e; same = λ e k p g. refl; less = omega arith }
 
 kept_back : (a b : Bool) → (a ≡ true → b ≡ true) → b ≡ false → a ≡ false
 kept_back true b f e = let g : b ≡ true = f refl in absurd (cc)
 kept_back false b f e = refl
 
-pub holds_more : (ps : List ComponentState) (ls bs cs : List Bool) (x y z : Bool) → Holds ps ls bs x y → Holds ps bs cs y z → Holds ps ls cs x z
+pub holds_more : (ps : List ComponentState) (ls bs cs : List Bool) (x y z : Bool) → HasHeld ps ls bs x y → HasHeld ps bs cs y z → HasHeld ps ls cs x z
 holds_more ps ls bs cs x y z a b =
     let f = a.less in
     let g = b.less in
@@ -295,7 +297,7 @@ free_set (true ∷ bs) zero l = omega arith
 free_set (false ∷ bs) zero l = omega arith
 free_set (b ∷ bs) (suc k) l = let i = free_set bs k (omega (arith, l)) in omega (arith, i)
 
-adds_set : (bs : List Bool) (k : ℕ) → k < length bs → Adds bs (set bs k true)
+adds_set : (bs : List Bool) (k : ℕ) → k < length bs → AreFlagsAdded bs (set bs k true)
 adds_set bs k l =
     let i = free_set bs k l in
     record { many = length_set bs k; more = set_more bs k; fewer = omega (arith, i) }
@@ -326,7 +328,7 @@ some_part : (p q : ComponentState) → Some p ≡ Some q → p ≡ q
 some_part p q e = ap (λ (o : Option ComponentState). elim o [ None ↦ p | Some r ↦ r ]) e
 
 pub holds_set : (ps : List ComponentState) (bs : List Bool) (k : ℕ) (p : ComponentState) (grew had : Bool) → k < length bs → slice_get ps k ≡ Some p →
-    grew ≡ (not (get_or bs k false) && not (is_to_stop p)) → Holds ps bs (set bs k true) had (grew || had)
+    grew ≡ (not (get_or bs k false) && not (is_to_stop p)) → HasHeld ps bs (set bs k true) had (grew || had)
 holds_set ps bs k p grew had l e g = record {
   adds = adds_set bs k l;
   kept = kept_by grew had;
@@ -385,22 +387,22 @@ flag_none n ps bs e = subst (λ (o : Option ℕ). IfSome o (λ i. get_or bs i fa
 
 -- ---- all that one needs
 
-flag_later : (n : List ℕ) (ps : List ComponentState) (bs cs : List Bool) → Adds bs cs → IsFlagged ps bs n → IsFlagged ps cs n
+flag_later : (n : List ℕ) (ps : List ComponentState) (bs cs : List Bool) → AreFlagsAdded bs cs → IsFlagged ps bs n → IsFlagged ps cs n
 flag_later n ps bs cs a h = later (place_of n ps) h where
   later : (o : Option ℕ) → IfSome o (λ i. get_or bs i false ≡ true) → IfSome o (λ i. get_or cs i false ≡ true)
   later None g = tt
   later (Some i) g = a.more i g
 
-pub flags_later : (ps : List ComponentState) (bs cs : List Bool) (ns : List (List ℕ)) → Adds bs cs → HaveFlags ps bs ns → HaveFlags ps cs ns
+pub flags_later : (ps : List ComponentState) (bs cs : List Bool) (ns : List (List ℕ)) → AreFlagsAdded bs cs → HaveFlags ps bs ns → HaveFlags ps cs ns
 flags_later ps bs cs ns a h = all_more (IsFlagged ps bs) (IsFlagged ps cs) ns (λ n. flag_later n ps bs cs a) h
 
 pub all_joined : (P : List ℕ → Type 0) (xs ys : List (List ℕ)) → AllByRecursion P xs → AllByRecursion P ys → AllByRecursion P (xs ++ ys)
 all_joined P [] ys a b = b
 all_joined P (x ∷ xs) ys a b = (a.0, all_joined P xs ys a.1 b)
 
-pub all_front : (P : List ℕ → Type 0) (xs ys : List (List ℕ)) → AllByRecursion P (xs ++ ys) → AllByRecursion P xs
-all_front P [] ys a = tt
-all_front P (x ∷ xs) ys a = (a.0, all_front P xs ys a.1)
+pub all_prefix : (P : List ℕ → Type 0) (xs ys : List (List ℕ)) → AllByRecursion P (xs ++ ys) → AllByRecursion P xs
+all_prefix P [] ys a = tt
+all_prefix P (x ∷ xs) ys a = (a.0, all_prefix P xs ys a.1)
 
 pub all_back : (P : List ℕ → Type 0) (xs ys : List (List ℕ)) → AllByRecursion P (xs ++ ys) → AllByRecursion P ys
 all_back P [] ys a = a
@@ -424,11 +426,11 @@ pub place_below : (n : List ℕ) (k : ℕ) (ps : List ComponentState) → Some k
 place_below n k ps e = at_below (λ p. component_name p ≡ n) ps k (named_place n k ps (sym e))
 
 pub hold_one : (n : List ℕ) (k : ℕ) (ps : List ComponentState) (old new : List Bool) (grew had has : Bool) → Some k ≡ place_of n ps → k < length old →
-    At k (λ p. grew ≡ (not (get_or old k false) && not (is_to_stop p))) ps → new ≡ set old k true → has ≡ (grew || had) → Holds ps old new had has
+    At k (λ p. grew ≡ (not (get_or old k false) && not (is_to_stop p))) ps → new ≡ set old k true → has ≡ (grew || had) → HasHeld ps old new had has
 hold_one n k ps old new grew had has o l g e h =
     let x = part_at (λ p. grew ≡ (not (get_or old k false) && not (is_to_stop p))) k ps g in
-    subst (λ (cs : List Bool). Holds ps old cs had has) (sym e)
-    (subst (λ (b : Bool). Holds ps old (set old k true) had b) (sym h) (holds_set ps old k x.0 grew had l x.1 x.2))
+    subst (λ (cs : List Bool). HasHeld ps old cs had has) (sym e)
+    (subst (λ (b : Bool). HasHeld ps old (set old k true) had b) (sym h) (holds_set ps old k x.0 grew had l x.1 x.2))
 
 pub flag_one : (n : List ℕ) (k : ℕ) (ps : List ComponentState) (old new : List Bool) → Some k ≡ place_of n ps → k < length old → new ≡ set old k true →
     IsFlagged ps new n
@@ -458,7 +460,7 @@ all_before P (n ∷ ns) (suc k) x l e a =
 
 -- what a loop over the names that are needed has done so far
 pub record Needs (ps : List ComponentState) (old new : List Bool) (had has : Bool) (ns : List (List ℕ)) : Type 0 where
-  pub holds : Holds ps old new had has
+  pub holds : HasHeld ps old new had has
   pub flags : HaveFlags ps new ns
   pub held : AreNamesHeld ps ns → AreHeld ps old → AreHeld ps new
 
@@ -470,11 +472,11 @@ pub needs_more : (ps : List ComponentState) (ls bs cs : List Bool) (x y z : Bool
 needs_more ps ls bs cs x y z ns ms a b = record {
   holds = holds_more ps ls bs cs x y z a.holds b.holds;
   flags = all_joined (IsFlagged ps cs) ns ms (flags_later ps bs cs ns b.holds.adds a.flags) b.flags;
-  held = λ h i. b.held (all_back (λ n. is_held_far n ps ≡ true) ns ms h) (a.held (all_front (λ n. is_held_far n ps ≡ true) ns ms h) i);
+  held = λ h i. b.held (all_back (λ n. is_held_far n ps ≡ true) ns ms h) (a.held (all_prefix (λ n. is_held_far n ps ≡ true) ns ms h) i);
 }
 
 pub needs_next : (ps : List ComponentState) (ls bs cs : List Bool) (x y z : Bool) (ns : List (List ℕ)) (k : ℕ) (n : List ℕ) → k < length ns →
-    n ≡ get_or ns k n → Needs ps ls bs x y (take k ns) → Holds ps bs cs y z → IsFlagged ps cs n
+    n ≡ get_or ns k n → Needs ps ls bs x y (take k ns) → HasHeld ps bs cs y z → IsFlagged ps cs n
     → (is_held_far n ps ≡ true → AreHeld ps bs → AreHeld ps cs) → Needs ps ls cs x z (take (k + 1) ns)
 needs_next ps ls bs cs x y z ns k n l e a h f g = record {
   holds = holds_more ps ls bs cs x y z a.holds h;
@@ -484,14 +486,14 @@ needs_next ps ls bs cs x y z ns k n l e a h f g = record {
 
 -- what a pass over all has done so far
 pub record Passed (ps : List ComponentState) (old new : List Bool) (has : Bool) (k : ℕ) : Type 0 where
-  pub holds : Holds ps old new false has
+  pub holds : HasHeld ps old new false has
   pub done : (j : ℕ) (p : ComponentState) → j < k → slice_get ps j ≡ Some p → holds_others old j p ≡ true → HaveFlags ps new (hard_needs p)
   pub held : AreHeld ps old → AreHeld ps new
 
 pub passed_none : (ps : List ComponentState) (bs : List Bool) → Passed ps bs bs false 0
 passed_none ps bs = record { holds = holds_none ps bs false; done = λ j p l. absurd (omega (arith, l)); held = λ a. a }
 
-holds_later : (bs cs : List Bool) (k : ℕ) (p : ComponentState) → Adds bs cs → holds_others bs k p ≡ true → holds_others cs k p ≡ true
+holds_later : (bs cs : List Bool) (k : ℕ) (p : ComponentState) → AreFlagsAdded bs cs → holds_others bs k p ≡ true → holds_others cs k p ≡ true
 holds_later bs cs k p a h = elim (or_cases (get_or bs k false) (is_to_stop p) h) [
   | inl x ↦ or_left (get_or cs k false) (is_to_stop p) (a.more k x)
   | inr x ↦ or_right (get_or cs k false) (is_to_stop p) x
@@ -500,7 +502,7 @@ holds_later bs cs k p a h = elim (or_cases (get_or bs k false) (is_to_stop p) h)
 at_split : (j k : ℕ) → j < k + 1 → (j < k) ⊎ (j ≡ k)
 at_split j k l = elim (cases_eq j k) [ inl e ↦ inr e | inr ne ↦ inl (omega (arith, ne, l)) ]
 
-pub passed_next : (ps : List ComponentState) (old bs new : List Bool) (x y : Bool) (k : ℕ) → Passed ps old bs x k → Holds ps bs new x y →
+pub passed_next : (ps : List ComponentState) (old bs new : List Bool) (x y : Bool) (k : ℕ) → Passed ps old bs x k → HasHeld ps bs new x y →
     At k (λ p. holds_others bs k p ≡ true → HaveFlags ps new (hard_needs p)) ps → (AreHeld ps bs → AreHeld ps new) → Passed ps old new y (k + 1)
 passed_next ps old bs new x y k a h f g = record {
   holds = holds_more ps old bs new false x y a.holds h;

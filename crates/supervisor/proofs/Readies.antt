@@ -6,7 +6,7 @@ use Rattle.std.specs.List.{AllByRecursion}
 use Rattle.std.proofs.lemmas.List.{length-map}
 use Rattle.records.specs.Stored.{Item}
 use Rattle.records.specs.declared.record.Origin.{Origin}
-use Rattle.device.specs.Plans.{HasSomeRecipe, Rise, item_name}
+use Rattle.device.specs.Plans.{HasSomeRecipe, AreRising, item_name}
 use Rattle.device.specs.Scopes.{HasScope}
 use Rattle.components.specs.Fitted.{Fitted, name_of}
 use Rattle.components.specs.Made.{IsFittedAt, AreFitted}
@@ -73,7 +73,7 @@ fitted_names (i ∷ is) (f ∷ fs) e h =
     (fitted_names is fs (omega (arith, e)) (λ j x n. h (suc j) x n))
 
 -- the names of what is ready stand once
-pub ready_apart : (origin : Origin) (items : List Item) (ps : List ComponentState) → AreFitted origin items (fitted_all ps) → Rise (map item_name items) →
+pub ready_apart : (origin : Origin) (items : List Item) (ps : List ComponentState) → AreFitted origin items (fitted_all ps) → AreRising (map item_name items) →
     AreNamesApart (names ps)
 ready_apart origin items ps a r =
     let e = fitted_names items (fitted_all ps) a.many (λ j f n. let i = a.each j f n in (i.is_scope.item, i.is_scope.there, i.item)) in

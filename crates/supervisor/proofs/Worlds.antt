@@ -7,7 +7,7 @@ use Rattle.nuc_base.specs.declared.kinds.Step.TheVariants as step
 use Rattle.nuc_base.specs.declared.kinds.Exit.{Exit}
 use Rattle.lifecycle.specs.declared.kinds.LifeEvent.{LifeEvent}
 use Rattle.lifecycle.specs.declared.kinds.LifeEvent.TheVariants as life
-use Rattle.components.specs.Answers.{Answers, HasHanded}
+use Rattle.components.specs.Answers.{IsExpected, HasHanded}
 use Rattle.components.specs.Events.{gone_by, ended, later, is_orphan_at, with_child, started, launched}
 use Rattle.components.specs.Turns.{is_begun}
 use Rattle.components.proofs.Each.{at_more, at_below}
@@ -81,7 +81,7 @@ ended_some n x k s steady old new o g = λ m.
           (at_moment old m steady)
     ]) o
 
-pub answers_later : (w : Components) (m : ℕ) (e : Event) → Answers w e → Answers (later m w) e
+pub answers_later : (w : Components) (m : ℕ) (e : Event) → IsExpected w e → IsExpected (later m w) e
 answers_later w m (Started k s n) a = a
 answers_later w m (Refused k s) a = a
 answers_later w m (Skipped k s) a = a

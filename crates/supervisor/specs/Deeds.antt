@@ -80,6 +80,6 @@ IsOwed k parts (acts.Broke i t e) = (i ≡ k) × At k (λ p. (p.owed ≡ Some (t
 abbrev pub IsOwing : List ComponentState → Option (ℕ × Act) → Type 0
 IsOwing parts found = MatchOption found (list_any owes parts ≡ false) (λ x. IsOwed x.0 parts x.1)
 
--- one of them was told its failure
-abbrev pub IsTold : List ComponentState → List ComponentState → Type 0
-IsTold old new = (k : ℕ) × (new ≡ changed_at k (λ p. record p { owed = None }) old)
+-- one of them handed out its failure
+abbrev pub HasHandedOut : List ComponentState → List ComponentState → Type 0
+HasHandedOut old new = (k : ℕ) × (new ≡ changed_at k (λ p. record p { owed = None }) old)

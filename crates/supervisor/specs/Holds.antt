@@ -46,14 +46,14 @@ abbrev pub IsClosedAhead : List ComponentState → List Bool → Type 0
 IsClosedAhead ps bs = (k : ℕ) (p : ComponentState) → slice_get ps k ≡ Some p → holds_others bs k p ≡ true → HaveFlags ps bs (hard_needs p)
 
 -- some more may have a flag
-pub record Adds (old new : List Bool) : Type 0 where
+pub record AreFlagsAdded (old new : List Bool) : Type 0 where
   pub many : length new ≡ length old
   pub more : (k : ℕ) → get_or old k false ≡ true → get_or new k false ≡ true
   pub fewer : free new ≤ free old
 
 -- So; where none is still to be gone on from, nobody holds others that did not before.
-pub record Holds (ps : List ComponentState) (old new : List Bool) (had has : Bool) : Type 0 where
-  pub adds : Adds old new
+pub record HasHeld (ps : List ComponentState) (old new : List Bool) (had has : Bool) : Type 0 where
+  pub adds : AreFlagsAdded old new
   pub kept : had ≡ true → has ≡ true
   pub same : has ≡ false → (k : ℕ) (p : ComponentState) → slice_get ps k ≡ Some p → holds_others new k p ≡ holds_others old k p
   pub less : free new + (if has then 1 else 0) ≤ free old + (if had then 1 else 0)

@@ -4,7 +4,7 @@ ghost use Rattle.std.specs.List.{list_any, list_all};
 ghost use Rattle.std.specs.Str.{bytes_eq};
 ghost use Rattle.components.specs.Acts.{HandsOut, NextAct};
 ghost use Rattle.components.specs.Answers.{living_numbers};
-ghost use Rattle.supervisor.specs.Deeds.{MayDo, IsFirst, IsDone, IsOwed, IsOwing, IsTold};
+ghost use Rattle.supervisor.specs.Deeds.{MayDo, IsFirst, IsDone, IsOwed, IsOwing, HasHandedOut};
 ghost use Rattle.components.specs.Flags.{at_moment};
 ghost use Rattle.components.specs.Readied.{AreApart, AreNamesApart, HaveNames, IsKept};
 ghost use Rattle.components.specs.Rows.{is_stop_ready};
@@ -279,7 +279,7 @@ fn tell_first(slots: &mut [Slot]) -> Option<Act>
     requires names { AreNamesApart (map component_name slots.old) }
     ensures none { result ≡ None → (list_any owes slots.old ≡ false) × (slots.new ≡ slots.old) }
     ensures some { IfSome result (λ act. (m : ℕ) (s : Bool) → HandsOut (at_moment slots.old m s) (Some act) (at_moment slots.new m s)) }
-    ensures told { IfSome result (λ act. IsTold slots.old slots.new) }
+    ensures handed_out { IfSome result (λ act. HasHandedOut slots.old slots.new) }
 {
     match first_failure(slots) {
         None => None,
@@ -295,7 +295,7 @@ fn act_first(slots: &mut [Slot], flags: &mut [bool], moment: u64, steady: bool) 
     requires many { length flags.old ≡ length slots.old }
     requires kept { IsKept (at_moment slots.old moment steady) }
     requires whole { AreWhole slots.old }
-    requires told { list_any owes slots.old ≡ false }
+    requires owes_none { list_any owes slots.old ≡ false }
     ensures next { NextAct (at_moment slots.old moment steady) result (at_moment slots.new moment steady) }
     ensures kept { IsKept (at_moment slots.new moment steady) }
     ensures whole { AreWhole slots.new }

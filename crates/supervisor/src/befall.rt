@@ -1,6 +1,6 @@
 //! What befalls the components.
 ghost use Rattle.std.specs.Prelude.{◌≡◌, ◌<◌, ◌^◌, ℕ, true, false, length};
-ghost use Rattle.components.specs.Answers.{Answers};
+ghost use Rattle.components.specs.Answers.{IsExpected};
 ghost use Rattle.components.specs.Events.{started, refused, skipped, ended, killed, gone_by, noticed, kill_event, with_child, is_orphan_at};
 ghost use Rattle.components.specs.Fitted.{prepared_of, limit_of};
 ghost use Rattle.components.specs.Flags.{at_moment};
@@ -188,7 +188,7 @@ pub(crate) fn kill_child(
 fn befall(slots: &mut [Slot], flags: &mut [bool], event: Event, moment: u64, steady: bool)
     requires few { length slots.old < 2 ^ 32 }
     requires time { moment < 2 ^ 62 }
-    requires answers { Answers (at_moment slots.old moment steady) event }
+    requires answers { IsExpected (at_moment slots.old moment steady) event }
     requires many { length flags.old ≡ length slots.old }
     requires names { HaveNames slots.old }
     ensures noticed { at_moment slots.new moment steady ≡ noticed event (at_moment slots.old moment steady) }
@@ -220,7 +220,7 @@ pub(crate) fn befall_in(
 )
     requires few { length slots.old.items < 2 ^ 32 }
     requires time { moment < 2 ^ 62 }
-    requires answers { Answers (at_moment slots.old.items moment steady) event }
+    requires answers { IsExpected (at_moment slots.old.items moment steady) event }
     requires many { length flags.old.items ≡ length slots.old.items }
     requires names { HaveNames slots.old.items }
     ensures noticed { at_moment slots.new.items moment steady ≡ noticed event (at_moment slots.old.items moment steady) }

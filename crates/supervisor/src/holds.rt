@@ -5,7 +5,7 @@ ghost use Rattle.std.specs.Str.{bytes_eq};
 ghost use Rattle.components.specs.Components.{At, component_name, is_to_stop};
 ghost use Rattle.components.specs.Readied.{AreNamesApart};
 ghost use Rattle.components.specs.Turns.{coming_needs, hard_needs, is_held as is_held_among, is_held_far};
-ghost use Rattle.supervisor.specs.Holds.{Adds, AreAskedHeld, AreHeld, AreNamesHeld, HaveFlags, Holds, IsClosedAhead, IsFlagged, ShowAsked, ShowHeld};
+ghost use Rattle.supervisor.specs.Holds.{AreFlagsAdded, AreAskedHeld, AreHeld, AreNamesHeld, HaveFlags, HasHeld, IsClosedAhead, IsFlagged, ShowAsked, ShowHeld};
 ghost use Rattle.supervisor.specs.Holds.{asks_for_good, holds_others};
 
 use crate::needs::{Need, User};
@@ -89,7 +89,7 @@ fn hold_at(slots: &[Slot], flags: &mut [bool], at: usize) -> bool
 fn hold_need(slots: &[Slot], flags: &mut [bool], need: &Need, first: Option<usize>) -> Option<usize>
     requires many { length flags.old ≡ length slots.now }
     requires names { AreNamesApart (map component_name slots.now) }
-    ensures holds { Holds slots.now flags.old flags.new (is_some first) (is_some result) }
+    ensures holds { HasHeld slots.now flags.old flags.new (is_some first) (is_some result) }
     ensures flag { IsFlagged slots.now flags.new need.now }
     ensures held { is_held_far need.now slots.now ≡ true → AreHeld slots.now flags.old → AreHeld slots.now flags.new }
 {
@@ -109,7 +109,7 @@ fn hold_needs(
 ) -> Option<usize>
     requires many { length flags.old ≡ length slots.now }
     requires names { AreNamesApart (map component_name slots.now) }
-    ensures holds { Holds slots.now flags.old flags.new (is_some first) (is_some result) }
+    ensures holds { HasHeld slots.now flags.old flags.new (is_some first) (is_some result) }
     ensures flags { HaveFlags slots.now flags.new needs.now }
     ensures held { AreNamesHeld slots.now needs.now → AreHeld slots.now flags.old → AreHeld slots.now flags.new }
 {
@@ -129,7 +129,7 @@ fn hold_coming_needs(
 ) -> Option<usize>
     requires many { length flags.old ≡ length slots.now }
     requires names { AreNamesApart (map component_name slots.now) }
-    ensures holds { Holds slots.now flags.old flags.new (is_some first) (is_some result) }
+    ensures holds { HasHeld slots.now flags.old flags.new (is_some first) (is_some result) }
     ensures flags { HaveFlags slots.now flags.new (coming_needs slot.now) }
     ensures held { AreNamesHeld slots.now (coming_needs slot.now) → AreHeld slots.now flags.old → AreHeld slots.now flags.new }
 {
@@ -148,7 +148,7 @@ fn hold_needs_of(
 ) -> Option<usize>
     requires many { length flags.old ≡ length slots.now }
     requires names { AreNamesApart (map component_name slots.now) }
-    ensures holds { Holds slots.now flags.old flags.new (is_some first) (is_some result) }
+    ensures holds { HasHeld slots.now flags.old flags.new (is_some first) (is_some result) }
     ensures flags { HaveFlags slots.now flags.new (hard_needs slot.now) }
     ensures held { AreNamesHeld slots.now (hard_needs slot.now) → AreHeld slots.now flags.old → AreHeld slots.now flags.new }
 {
@@ -170,7 +170,7 @@ fn hold_by(slots: &[Slot], flags: &mut [bool], at: usize, first: Option<usize>) 
     requires at { at < length slots.now }
     requires many { length flags.old ≡ length slots.now }
     requires names { AreNamesApart (map component_name slots.now) }
-    ensures holds { Holds slots.now flags.old flags.new (is_some first) (is_some result) }
+    ensures holds { HasHeld slots.now flags.old flags.new (is_some first) (is_some result) }
     ensures flags { At at (λ p. holds_others flags.old at p ≡ true → HaveFlags slots.now flags.new (hard_needs p)) slots.now }
     ensures held { AreHeld slots.now flags.old → AreHeld slots.now flags.new }
 {
@@ -184,7 +184,7 @@ fn hold_by(slots: &[Slot], flags: &mut [bool], at: usize, first: Option<usize>) 
 fn hold_once(slots: &[Slot], flags: &mut [bool]) -> Option<usize>
     requires many { length flags.old ≡ length slots.now }
     requires names { AreNamesApart (map component_name slots.now) }
-    ensures holds { Holds slots.now flags.old flags.new false (is_some result) }
+    ensures holds { HasHeld slots.now flags.old flags.new false (is_some result) }
     ensures closed { is_some result ≡ false → IsClosedAhead slots.now flags.new }
     ensures held { AreHeld slots.now flags.old → AreHeld slots.now flags.new }
 {
@@ -199,7 +199,7 @@ fn hold_once(slots: &[Slot], flags: &mut [bool]) -> Option<usize>
 fn hold_rest(slots: &[Slot], flags: &mut [bool], from: usize)
     requires many { length flags.old ≡ length slots.now }
     requires names { AreNamesApart (map component_name slots.now) }
-    ensures adds { Adds flags.old flags.new }
+    ensures adds { AreFlagsAdded flags.old flags.new }
     ensures held { AreHeld slots.now flags.old → AreHeld slots.now flags.new }
 {
     let mut first = Some(from);

@@ -7,7 +7,8 @@ ghost use Rattle.components.specs.Components.{is_broken as is_state_broken, is_s
 ghost use Rattle.components.specs.Components.{stops_for_good as is_stopped_for_good};
 ghost use Rattle.components.specs.Lives.{stop_in as stop_of};
 ghost use Rattle.components.specs.Fitted.{Fitted};
-ghost use Rattle.components.specs.Rows.{succeeds_from, is_spared_by, owed_after as owed_by, stop_after as stop_by, completed_from, next_of, taken_item, Takes};
+ghost use Rattle.components.specs.Rows.{succeeds_from, is_spared_by, owed_after as owed_by, stop_after as stop_by};
+ghost use Rattle.components.specs.Rows.{completed_from, next_of, taken_item, ItemAfterStop};
 
 use crate::children::busy_with;
 use crate::fitted::FittedItem;
@@ -185,7 +186,7 @@ pub(crate) fn take_where(
 )
     requires stopped { again ≡ true → life.old ≡ begun life.old.steps 0 }
     requires few { IfSome (next_of fitted.old next.old) (λ n. n.1 < 3) }
-    ensures { Takes again fitted.old fitted.new life.old life.new (next_of fitted.old next.old) (next_of fitted.new next.new) }
+    ensures { ItemAfterStop again fitted.old fitted.new life.old life.new (next_of fitted.old next.old) (next_of fitted.new next.new) }
 {
     if !again {
         return;

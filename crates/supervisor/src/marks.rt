@@ -3,7 +3,7 @@ ghost use Rattle.std.specs.Prelude.{◌≡◌, ◌<◌, ◌&&◌, ◌||◌, true
 ghost use Rattle.components.specs.Components.{ComponentState, At, component_name};
 ghost use Rattle.std.specs.Str.{bytes_eq};
 ghost use Rattle.std.specs.Prelude.{List as ListOf};
-ghost use Rattle.components.specs.Flags.{with_flags, may_by, joins as joins_at, Grows, Spreads};
+ghost use Rattle.components.specs.Flags.{with_flags, may_by, joins as joins_at, HasSpread, SpreadOutcome};
 ghost use Rattle.components.specs.Changes.{is_replacing, replanned};
 ghost use Rattle.components.specs.Readied.{AreNamesApart};
 ghost use Rattle.components.specs.Marks.{is_flagged as is_named_flagged, needs_flagged as are_needs_flagged, reaching, marked, restarted, flagged};
@@ -97,7 +97,7 @@ fn either(a: bool, b: bool) -> bool
 fn spread_once(slots: &[Slot], flags: &mut [bool]) -> bool
     requires many { length flags.old ≡ length slots.now }
     requires names { AreNamesApart (map component_name slots.now) }
-    ensures { Spreads slots.now flags.old flags.new result }
+    ensures { SpreadOutcome slots.now flags.old flags.new result }
 {
     let mut grew = false;
     for at in 0..slots.len() {
@@ -139,7 +139,7 @@ fn joins_as(slots: &[Slot], flags: &[bool], user: User) -> bool
 fn join_user(slots: &[Slot], flags: &mut [bool], user: User) -> bool
     requires many { length flags.old ≡ length slots.now }
     requires names { AreNamesApart (map component_name slots.now) }
-    ensures { Grows slots.now flags.old flags.new }
+    ensures { HasSpread slots.now flags.old flags.new }
 {
     let at = user.component;
     if !joins_as(slots, flags, user) {
@@ -154,7 +154,7 @@ fn join_user(slots: &[Slot], flags: &mut [bool], user: User) -> bool
 fn join_users(slots: &[Slot], flags: &mut [bool], at: usize) -> Option<usize>
     requires many { length flags.old ≡ length slots.now }
     requires names { AreNamesApart (map component_name slots.now) }
-    ensures { Grows slots.now flags.old flags.new }
+    ensures { HasSpread slots.now flags.old flags.new }
 {
     let mut first = rest_after(slots, at);
     let mut user = first_user(slots, at);
@@ -182,7 +182,7 @@ fn first_flagged(slots: &[Slot], flags: &[bool]) -> Option<usize> {
 fn spread_known(slots: &[Slot], flags: &mut [bool])
     requires many { length flags.old ≡ length slots.now }
     requires names { AreNamesApart (map component_name slots.now) }
-    ensures { Grows slots.now flags.old flags.new }
+    ensures { HasSpread slots.now flags.old flags.new }
 {
     let mut first = first_flagged(slots, flags);
     for turn in 0..slots.len() {

@@ -2,7 +2,7 @@
 ghost use Rattle.std.specs.Prelude.{◌≤◌, length, map, IfOk};
 ghost use Rattle.std.specs.List.{AllByRecursion};
 ghost use Rattle.records.specs.Stored.{item_view};
-ghost use Rattle.device.specs.Plans.{AreRegularItems, HasSomeRecipe, Rise, item_name};
+ghost use Rattle.device.specs.Plans.{AreRegularItems, HasSomeRecipe, AreRising, item_name};
 ghost use Rattle.device.specs.Scopes.{HasScope};
 ghost use Rattle.components.specs.Made.{AreFitted, IsFittedAt};
 ghost use Rattle.components.specs.Readied.{IsFresh, AreFresh};
@@ -76,7 +76,7 @@ pub(crate) fn make_ready(
     items: &List<Item>,
     standing: usize,
 ) -> Result<Ready, NoMemory>
-    requires rise { Rise (map item_name (map item_view items.now)) }
+    requires rise { AreRising (map item_name (map item_view items.now)) }
     requires few { length items.now ≤ 128 }
     requires recipes { AllByRecursion (λ i. HasSomeRecipe origin.now.platform i.recipe) (map item_view items.now) }
     requires regular { AreRegularItems (map item_view items.now) }

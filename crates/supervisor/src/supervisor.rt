@@ -2,12 +2,12 @@
 ghost use Rattle.std.specs.Prelude.{◌≡◌, ◌≤◌, ◌<◌, ◌+◌, ◌^◌, ℕ, [], true, length, map, option_map, option_and_then, Some, IsSome, IfSome, IfOk, All, slice_get};
 ghost use Rattle.std.specs.Prelude.{List as ListOf};
 ghost use Rattle.std.specs.List.{AllByRecursion};
-ghost use Rattle.nuc_base.specs.Leads.{Leads};
+ghost use Rattle.nuc_base.specs.Leads.{HasPath};
 ghost use Rattle.records.specs.Stored.{item_view};
-ghost use Rattle.device.specs.Plans.{Rise, item_name, AreRegularItems, NeedsByName, HasSomeRecipe};
+ghost use Rattle.device.specs.Plans.{AreRising, item_name, AreRegularItems, NeedsByName, HasSomeRecipe};
 ghost use Rattle.components.specs.Made.{AreFitted};
 ghost use Rattle.components.specs.Acts.{NextAct};
-ghost use Rattle.components.specs.Answers.{Answers, has_answered, is_steady, broken_name, IsLivingAt, IsNextLiving, standing_count};
+ghost use Rattle.components.specs.Answers.{IsExpected, has_answered, is_steady, broken_name, IsLivingAt, IsNextLiving, standing_count};
 ghost use Rattle.components.specs.Changes.{changed_to, all_stopped, standing, steadied};
 ghost use Rattle.components.specs.Deadlines.{least_deadline};
 ghost use Rattle.components.specs.Events.{noticed, later};
@@ -80,10 +80,10 @@ impl Supervisor {
         origin: &Origin,
         items: &List<Item>,
     ) -> Result<Ready, NoMemory>
-        requires rise { Rise (map item_name (map item_view items.now)) }
+        requires rise { AreRising (map item_name (map item_view items.now)) }
         requires few { length items.now ≤ 128 }
         requires recipes { AllByRecursion (λ i. HasSomeRecipe origin.now.platform i.recipe) (map item_view items.now) }
-        requires acyclic { (name : ListOf ℕ) → Leads (NeedsByName origin.now.platform (map item_view items.now)) name name → ⊥ }
+        requires acyclic { (name : ListOf ℕ) → HasPath (NeedsByName origin.now.platform (map item_view items.now)) name name → ⊥ }
         requires regular { AreRegularItems (map item_view items.now) }
         ensures made { IfOk result (λ r. AreFitted origin.now (map item_view items.now) r.coming) }
         ensures room { IfOk result (λ r. standing_count self.now ≤ r.room) }
@@ -105,7 +105,7 @@ impl Supervisor {
     /// child that ended lives, and the number of a started child is that of none that lives. A moment is below 2^62, and not
     /// below an earlier one.
     pub fn event(&mut self, event: Event, moment: u64)
-        requires answers { Answers self.old event }
+        requires answers { IsExpected self.old event }
         requires late { self.old.moment ≤ moment }
         requires in_time { moment < 2 ^ 62 }
         ensures { self.new ≡ noticed event (later moment self.old) }

@@ -29,8 +29,8 @@ fn step_of(alloc: Global, step: &str, script: &str) -> Result<String, AllocError
     }
 }
 
-/// The front of a recipe, up to its version.
-fn recipe_front(alloc: Global, name: &str, version: &str) -> Result<String, AllocError> {
+/// The beginning of a recipe, up to its version.
+fn recipe_beginning(alloc: Global, name: &str, version: &str) -> Result<String, AllocError> {
     format!(in alloc;
         r#"{{"RecipeFormatVersion":"2020-01-25","ComponentName":"{name}","ComponentVersion":"{version}""#
     )
@@ -102,7 +102,7 @@ fn recipe_of(alloc: Global, component: &str) -> Result<String, AllocError> {
     let name = words.next().unwrap_or("");
     let version = words.next().unwrap_or("");
     let parts = words.next().unwrap_or("");
-    let mut recipe = recipe_front(alloc, name, version)?;
+    let mut recipe = recipe_beginning(alloc, name, version)?;
     match add_parts(alloc, &mut recipe, parts) {
         Ok(()) => Ok(recipe),
         Err(fault) => {
@@ -170,8 +170,8 @@ pub fn files_of(alloc: Global, component: &[u8], file: &[u8]) -> Result<List<Sto
     files_with(alloc, component, file, bytes)
 }
 
-/// The front of a document, up to its first component: its id, with `@` and a revision behind it or without, and its policy.
-fn document_front(alloc: Global, named: &str, policy: &str) -> Result<String, AllocError> {
+/// The beginning of a document, up to its first component: its id, with `@` and a revision behind it or without, and its policy.
+fn document_beginning(alloc: Global, named: &str, policy: &str) -> Result<String, AllocError> {
     let mut named = named.splitn(2, '@');
     let id = named.next().unwrap_or("");
     let revision = named.next().unwrap_or("null");
@@ -225,10 +225,10 @@ pub fn document_of(alloc: Global, words: &str) -> Result<String, AllocError> {
     if words.starts_with("{") || words.starts_with("[") {
         return String::from_str(alloc, words);
     }
-    let mut front = words.split_whitespace();
-    let named = front.next().unwrap_or("");
-    let policy = front.next().unwrap_or("");
-    let mut document = document_front(alloc, named, policy)?;
+    let mut given = words.split_whitespace();
+    let named = given.next().unwrap_or("");
+    let policy = given.next().unwrap_or("");
+    let mut document = document_beginning(alloc, named, policy)?;
     match add_components(alloc, &mut document, words) {
         Ok(()) => Ok(document),
         Err(fault) => {

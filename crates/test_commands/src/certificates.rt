@@ -100,10 +100,10 @@ fn told(alloc: Global, failing: u64) -> Result<String, Fail> {
     text
 }
 
-/// Whether the text is cut off with status 6, and is a front of the certificate.
-fn is_front(text: &str) -> bool {
+/// Whether the text is cut off with status 6, and is a prefix of the certificate.
+fn is_prefix(text: &str) -> bool {
     match (text.strip_prefix("6|"), WHOLE.strip_prefix("3|")) {
-        (Some(front), Some(whole)) => whole.starts_with(front),
+        (Some(prefix), Some(whole)) => whole.starts_with(prefix),
         _ => false,
     }
 }
@@ -112,7 +112,7 @@ fn is_front(text: &str) -> bool {
 fn is_whole(rt: &impl Abort, alloc: Global, failing: u64) -> Result<bool, Fail> {
     let text = told(alloc, failing)?;
     let is_told = text.as_str() == WHOLE;
-    assert!(rt; is_told || is_front(text.as_str()), "{text}");
+    assert!(rt; is_told || is_prefix(text.as_str()), "{text}");
     drop(text);
     Ok(is_told)
 }

@@ -34,7 +34,7 @@ fn a_library_has_1024_recipes(rt: HostRuntime) -> Result<(), Fail> {
     Ok(())
 }
 
-/// The record with which the front of a slot begins that was turned twice, up to its counts.
+/// The record with which a slot begins that was turned twice, up to its counts.
 const TURNED: &[u8] =
     b"\x19\0\0\0\0\0\0\0\x02\0\0\0\x03/gg\0\0\0\x02t1\0\0\0\x062.12.0\0\0\0\x05linux\0\0\0\x05amd64";
 

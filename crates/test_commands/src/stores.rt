@@ -447,32 +447,32 @@ fn a_closed_inbox_ends_a_call_that_serves(rt: HostRuntime) -> Result<(), Fail> {
     Ok(())
 }
 
-/// Whether the call answers 6 where the sink fails this call, prints this front, and leaves this journal.
+/// Whether the call answers 6 where the sink fails this call, prints this prefix, and leaves this journal.
 fn is_cut_off(
     alloc: Global,
     words: &str,
     disk: &mut MemoryDisk,
     failing: u64,
-    front: &str,
+    prefix: &str,
 ) -> Result<bool, Fail> {
     let ran = run(alloc, words, disk, &[failing])?;
-    let is_edge = ran.status == Status::Edge && ran.printed.as_slice() == front.as_bytes();
+    let is_edge = ran.status == Status::Edge && ran.printed.as_slice() == prefix.as_bytes();
     drop(ran);
     Ok(is_edge && disk.file("journal") == NEW)
 }
 
 /// The same of `init` where there is no store.
-fn is_init_cut_off(alloc: Global, failing: u64, front: &str) -> Result<bool, Fail> {
+fn is_init_cut_off(alloc: Global, failing: u64, prefix: &str) -> Result<bool, Fail> {
     let mut disk = MemoryDisk::new(alloc);
-    let is_right = is_cut_off(alloc, INIT, &mut disk, failing, front);
+    let is_right = is_cut_off(alloc, INIT, &mut disk, failing, prefix);
     drop(disk);
     is_right
 }
 
 /// The same of the words over a new store.
-fn is_cut_off_over(alloc: Global, words: &str, failing: u64, front: &str) -> Result<bool, Fail> {
+fn is_cut_off_over(alloc: Global, words: &str, failing: u64, prefix: &str) -> Result<bool, Fail> {
     let mut disk = holding(alloc, NEW, 0x01)?;
-    let is_right = is_cut_off(alloc, words, &mut disk, failing, front);
+    let is_right = is_cut_off(alloc, words, &mut disk, failing, prefix);
     drop(disk);
     is_right
 }
@@ -488,8 +488,8 @@ fn is_made_all_the_same(alloc: Global, failing: u64) -> Result<bool, Fail> {
 
 /// The line of a store that is made is cut off, up to its end.
 fn made_is_cut_off(rt: &impl Abort, alloc: Global) -> Result<(), Fail> {
-    for (failing, front) in [(0, ""), (1, "initialised "), (2, "initialised t1")] {
-        assert!(rt; is_init_cut_off(alloc, failing, front)?);
+    for (failing, prefix) in [(0, ""), (1, "initialised "), (2, "initialised t1")] {
+        assert!(rt; is_init_cut_off(alloc, failing, prefix)?);
     }
     assert!(rt; is_made_all_the_same(alloc, 3)?);
     Ok(())
@@ -499,12 +499,12 @@ fn made_is_cut_off(rt: &impl Abort, alloc: Global) -> Result<(), Fail> {
 fn lines_that_cannot_be_written_are_status_6(rt: HostRuntime) -> Result<(), Fail> {
     let alloc = rt.alloc();
     made_is_cut_off(&rt, alloc)?;
-    for (failing, front) in [
+    for (failing, prefix) in [
         (0, ""),
         (1, "refused 16 Initialised "),
         (2, "refused 16 Initialised t1"),
     ] {
-        assert!(rt; is_cut_off_over(alloc, INIT, failing, front)?);
+        assert!(rt; is_cut_off_over(alloc, INIT, failing, prefix)?);
     }
     assert!(rt; is_cut_off_over(alloc, SHOW, 0, "")?);
     Ok(())

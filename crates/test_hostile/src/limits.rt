@@ -99,8 +99,8 @@ const ROWS: &[&[(u32, &str)]] = &[
 /// Adds a piece in its turn.
 fn push_turn(row: &mut String, piece: &str, turn: u32) -> Result<(), AllocError> {
     match piece.split_once("###") {
-        Some((front, back)) => {
-            row.push_str(front)?;
+        Some((prefix, back)) => {
+            row.push_str(prefix)?;
             write!(row, "{turn:03}")?;
             row.push_str(back)
         }

@@ -58,9 +58,9 @@ fn a_journal_is_found_by_both(rt: HostRuntime) -> Result<(), Fail> {
         ("one byte", &[0x07][..], NONE),
         ("a whole one", &ONE[..], Ok((0, 47))),
         ("its last byte is missing", &ONE[..47], BAD),
-        ("a closed front", &[0, 0, 0, 0, 2, 0x11, 7, 0][..], NONE),
+        ("a closed start", &[0, 0, 0, 0, 2, 0x11, 7, 0][..], NONE),
         (
-            "an open front of another value",
+            "an open start of another value",
             &[0xff, 0, 0, 0, 2, 0x11, 7, 0][..],
             Ok((0, 7)),
         ),
@@ -92,7 +92,7 @@ fn the_live_slot_is_found(rt: HostRuntime) -> Result<(), Fail> {
     let alloc = rt.alloc();
     for (name, first, other, answer) in [
         ("both empty", &[][..], &[][..], NONE),
-        ("one byte, and a closed front", &[7], &[0, 1, 0], NONE),
+        ("one byte, and a closed start", &[7], &[0, 1, 0], NONE),
         ("the first alone", &GENESIS, &[], Ok((0, 7))),
         ("the other alone", &[], &turned(1), Ok((1, 14))),
         ("both, the second live", &GENESIS, &turned(1), Ok((1, 14))),
@@ -128,7 +128,7 @@ fn the_live_slot_is_found(rt: HostRuntime) -> Result<(), Fail> {
             Ok((2, 14)),
         ),
         (
-            "a front cut short behind a closed gate",
+            "a start cut short behind a closed gate",
             &GENESIS,
             &[0, 0, 0, 0, 9, 0x19, 0],
             Ok((0, 7)),
@@ -141,19 +141,19 @@ fn the_live_slot_is_found(rt: HostRuntime) -> Result<(), Fail> {
 }
 
 /// The first bytes of a turn's first payload, with this number.
-fn front(number: u64) -> [u8; 9]
+fn start(number: u64) -> [u8; 9]
     ensures { result ≡ 25 ∷ to_be_bytes w64 number ++ [] }
 {
     let [a, b, c, d, e, f, g, h] = number.to_be_bytes();
     [0x19, a, b, c, d, e, f, g, h]
 }
 
-/// Finds two slots and turns: puts a front and one more entry.
+/// Finds two slots and turns: puts a start and one more entry.
 fn turn<D: Disk>(disk: &mut D) -> Result<(), FindFault> {
     let mut slots: Slots = Journal::find(disk)?;
     slots.begin_turn(disk)?;
-    let front = front(slots.number().saturating_add(1));
-    slots.put(disk, &front)?;
+    let start = start(slots.number().saturating_add(1));
+    slots.put(disk, &start)?;
     slots.put(disk, b"\x1c")?;
     Ok(slots.end_turn(disk)?)
 }
@@ -200,7 +200,7 @@ fn a_turn_is_whole_or_not_there(rt: HostRuntime) -> Result<(), Fail> {
         for stop in 0..23u64 {
             let (disk, done) = stopped(alloc, first, other, stop)?;
             assert!(rt; done.is_ok() == (stop >= calls), "answer after {stop}");
-            // The last write opens the front gate, and the last sync makes that stable.
+            // The last write opens the first gate, and the last sync makes that stable.
             let lost = if stop < calls { before } else { after };
             let kept = if stop + 1 < calls { before } else { after };
             assert!(rt; leaves(alloc, &disk, Pick::Old, lost)?, "lost after {stop}");

@@ -173,11 +173,11 @@ fn is_answered(alloc: Global, kind: Kind, text: &str, wanted: &str) -> Result<bo
     Ok(answer(alloc, kind, text)?.as_str() == wanted)
 }
 
-fn is_row(alloc: Global, kind: Kind, front: &str, row: &str, back: &str) -> Result<bool, Fail> {
+fn is_row(alloc: Global, kind: Kind, prefix: &str, row: &str, back: &str) -> Result<bool, Fail> {
     let Some((wanted, middle)) = row.split_once('|') else {
         return Ok(false);
     };
-    let text = joined(alloc, front, middle, back)?;
+    let text = joined(alloc, prefix, middle, back)?;
     is_answered(alloc, kind, text.as_str(), wanted)
 }
 
@@ -185,23 +185,23 @@ fn is_row(alloc: Global, kind: Kind, front: &str, row: &str, back: &str) -> Resu
 fn first_wrong<'t>(
     alloc: Global,
     kind: Kind,
-    front: &str,
+    prefix: &str,
     table: &'t str,
     back: &str,
 ) -> Result<&'t str, Fail> {
     for row in table.lines() {
-        if !is_row(alloc, kind, front, row, back)? {
+        if !is_row(alloc, kind, prefix, row, back)? {
             return Ok(row);
         }
     }
     Ok("")
 }
 
-fn is_repeated_row(alloc: Global, front: &str, row: &str, back: &str) -> Result<bool, Fail> {
+fn is_repeated_row(alloc: Global, prefix: &str, row: &str, back: &str) -> Result<bool, Fail> {
     let Some((wanted, parts)) = row.split_once('|') else {
         return Ok(false);
     };
-    match repeated_of(alloc, front, parts, back)? {
+    match repeated_of(alloc, prefix, parts, back)? {
         Some(text) => is_answered(alloc, Kind::Request, text.as_str(), wanted),
         None => Ok(false),
     }
@@ -209,12 +209,12 @@ fn is_repeated_row(alloc: Global, front: &str, row: &str, back: &str) -> Result<
 
 fn first_wrong_repeated<'t>(
     alloc: Global,
-    front: &str,
+    prefix: &str,
     table: &'t str,
     back: &str,
 ) -> Result<&'t str, Fail> {
     for row in table.lines() {
-        if !is_repeated_row(alloc, front, row, back)? {
+        if !is_repeated_row(alloc, prefix, row, back)? {
             return Ok(row);
         }
     }

@@ -375,7 +375,7 @@ fn orders_cycles_and_dependents(rt: HostRuntime) -> Result<(), Fail> {
     Ok(())
 }
 
-/// The first place that does not stand as far from the front as its number is from 1023, or none.
+/// The first place that does not stand as far from the beginning as its number is from 1023, or none.
 fn first_out_of_order(list: &[u32]) -> Option<usize> {
     for (index, place) in list.iter().enumerate() {
         if index + *place as usize != 1023 {

@@ -5,7 +5,7 @@ ghost use Rattle.nuc_base.specs.declared.kinds.Step.TheVariants as steps;
 ghost use Rattle.records.specs.Stored as stored;
 ghost use Rattle.device.specs.Devices.{device_view, pending_view};
 ghost use Rattle.device.specs.Lawful.{Allowed, MayCount, broken};
-ghost use Rattle.deploy_state.specs.Objects.{Holds};
+ghost use Rattle.deploy_state.specs.Objects.{OwnsOver};
 ghost use Rattle.deploy_state.specs.Fields.{IsBegun, broken_item, has_failed, next_name};
 ghost use Rattle.deploy_state.specs.States.{OwnsActivating, OwnsBacking, OwnsBooting, OwnsLoaded, OwnsRolling, activating_device, backing_device};
 ghost use Rattle.deploy_state.specs.States.{booting_device};
@@ -87,9 +87,9 @@ fn end_of(device: &Device, exit: Exit) -> Exit {
 /// Takes the step that comes next where a bootstrap step failed.
 #[tactic(auto, using(crate::proofs::Tested::can_keep, crate::proofs::Tested::can_break))]
 fn end_booting<D: Disk, J: Journal + Drop>(disk: &mut D, booting: Booting<J>) -> Option<Loaded<J>>
-    requires held { Holds D.Disk J.Journal OwnsBooting booting disk.old }
+    requires held { OwnsOver D.Disk J.Journal OwnsBooting booting disk.old }
     requires failed { has_failed (booting_device booting) ≡ true }
-    ensures held { IfSome result (λ s. Holds D.Disk J.Journal OwnsLoaded s disk.new) }
+    ensures held { IfSome result (λ s. OwnsOver D.Disk J.Journal OwnsLoaded s disk.new) }
 {
     if has_policy(booting.device(), Policy::DoNothing) {
         return match booting.keep(disk) {
@@ -115,10 +115,10 @@ fn boot_next<D: Disk, J: Journal + Drop>(
     booting: Booting<J>,
     exit: Exit,
 ) -> Option<Loaded<J>>
-    requires held { Holds D.Disk J.Journal OwnsBooting booting disk.old }
+    requires held { OwnsOver D.Disk J.Journal OwnsBooting booting disk.old }
     requires next { IsSome (next_name (booting_device booting)) }
     requires well { has_failed (booting_device booting) ≡ false }
-    ensures held { IfSome result (λ s. Holds D.Disk J.Journal OwnsLoaded s disk.new) }
+    ensures held { IfSome result (λ s. OwnsOver D.Disk J.Journal OwnsLoaded s disk.new) }
 {
     if !is_begun(booting.device()) {
         return match booting.begin(disk) {
@@ -140,8 +140,8 @@ fn boot<D: Disk, J: Journal + Drop>(
     booting: Booting<J>,
     exit: Exit,
 ) -> Option<Loaded<J>>
-    requires held { Holds D.Disk J.Journal OwnsBooting booting disk.old }
-    ensures held { IfSome result (λ s. Holds D.Disk J.Journal OwnsLoaded s disk.new) }
+    requires held { OwnsOver D.Disk J.Journal OwnsBooting booting disk.old }
+    ensures held { IfSome result (λ s. OwnsOver D.Disk J.Journal OwnsLoaded s disk.new) }
 {
     if booting.failed() {
         return end_booting(disk, booting);
@@ -161,9 +161,9 @@ fn end_activating<D: Disk, J: Journal + Drop>(
     disk: &mut D,
     activating: Activating<J>,
 ) -> Option<Loaded<J>>
-    requires held { Holds D.Disk J.Journal OwnsActivating activating disk.old }
+    requires held { OwnsOver D.Disk J.Journal OwnsActivating activating disk.old }
     requires broken { IsSome (broken_item (activating_device activating)) }
-    ensures held { IfSome result (λ s. Holds D.Disk J.Journal OwnsLoaded s disk.new) }
+    ensures held { IfSome result (λ s. OwnsOver D.Disk J.Journal OwnsLoaded s disk.new) }
 {
     if has_policy(activating.device(), Policy::DoNothing) {
         return match activating.keep(disk) {
@@ -190,8 +190,8 @@ fn activate<D: Disk, J: Journal + Drop>(
     exit: Exit,
     name: &Name,
 ) -> Option<Loaded<J>>
-    requires held { Holds D.Disk J.Journal OwnsActivating activating disk.old }
-    ensures held { IfSome result (λ s. Holds D.Disk J.Journal OwnsLoaded s disk.new) }
+    requires held { OwnsOver D.Disk J.Journal OwnsActivating activating disk.old }
+    ensures held { IfSome result (λ s. OwnsOver D.Disk J.Journal OwnsLoaded s disk.new) }
 {
     if activating.broken().is_some() {
         return end_activating(disk, activating);
@@ -219,10 +219,10 @@ fn back_next<D: Disk, J: Journal + Drop>(
     backing: Backing<J>,
     exit: Exit,
 ) -> Option<Loaded<J>>
-    requires held { Holds D.Disk J.Journal OwnsBacking backing disk.old }
+    requires held { OwnsOver D.Disk J.Journal OwnsBacking backing disk.old }
     requires next { IsSome (next_name (backing_device backing)) }
     requires well { has_failed (backing_device backing) ≡ false }
-    ensures held { IfSome result (λ s. Holds D.Disk J.Journal OwnsLoaded s disk.new) }
+    ensures held { IfSome result (λ s. OwnsOver D.Disk J.Journal OwnsLoaded s disk.new) }
 {
     if !is_begun(backing.device()) {
         return match backing.begin(disk) {
@@ -243,9 +243,9 @@ fn go_back<D: Disk, J: Journal + Drop>(
     backing: Backing<J>,
     exit: Exit,
 ) -> Option<Loaded<J>>
-    requires held { Holds D.Disk J.Journal OwnsBacking backing disk.old }
+    requires held { OwnsOver D.Disk J.Journal OwnsBacking backing disk.old }
     requires well { has_failed (backing_device backing) ≡ false }
-    ensures held { IfSome result (λ s. Holds D.Disk J.Journal OwnsLoaded s disk.new) }
+    ensures held { IfSome result (λ s. OwnsOver D.Disk J.Journal OwnsLoaded s disk.new) }
 {
     if backing.next().is_some() {
         return back_next(disk, backing, exit);
@@ -261,8 +261,8 @@ fn back<D: Disk, J: Journal + Drop>(
     backing: Backing<J>,
     exit: Exit,
 ) -> Option<Loaded<J>>
-    requires held { Holds D.Disk J.Journal OwnsBacking backing disk.old }
-    ensures held { IfSome result (λ s. Holds D.Disk J.Journal OwnsLoaded s disk.new) }
+    requires held { OwnsOver D.Disk J.Journal OwnsBacking backing disk.old }
+    ensures held { IfSome result (λ s. OwnsOver D.Disk J.Journal OwnsLoaded s disk.new) }
 {
     if !backing.failed() {
         return go_back(disk, backing, exit);
@@ -280,8 +280,8 @@ fn roll<D: Disk, J: Journal + Drop>(
     exit: Exit,
     name: &Name,
 ) -> Option<Loaded<J>>
-    requires held { Holds D.Disk J.Journal OwnsRolling rolling disk.old }
-    ensures held { IfSome result (λ s. Holds D.Disk J.Journal OwnsLoaded s disk.new) }
+    requires held { OwnsOver D.Disk J.Journal OwnsRolling rolling disk.old }
+    ensures held { IfSome result (λ s. OwnsOver D.Disk J.Journal OwnsLoaded s disk.new) }
 {
     if rolling.broken().is_none() && may_fail(rolling.device(), name, exit) {
         return match rolling.failed(disk, name, Step::Run, exit) {
@@ -302,8 +302,8 @@ fn go<D: Disk, J: Journal + Drop>(
     exit: Exit,
     name: &Name,
 ) -> Option<Loaded<J>>
-    requires held { Holds D.Disk J.Journal OwnsLoaded state disk.old }
-    ensures held { IfSome result (λ s. Holds D.Disk J.Journal OwnsLoaded s disk.new) }
+    requires held { OwnsOver D.Disk J.Journal OwnsLoaded state disk.old }
+    ensures held { IfSome result (λ s. OwnsOver D.Disk J.Journal OwnsLoaded s disk.new) }
 {
     match state {
         Loaded::Idle(idle) => {
@@ -324,7 +324,7 @@ fn drive_on<D: Disk, J: Journal + Drop>(
     exit: Exit,
     name: &Name,
 ) -> usize
-    requires held { Holds D.Disk J.Journal OwnsLoaded state disk.old }
+    requires held { OwnsOver D.Disk J.Journal OwnsLoaded state disk.old }
 {
     let mut state = state;
     for count in 0..20usize {

@@ -6,7 +6,7 @@ ghost use Rattle.records.specs.Stored.{plan_view};
 ghost use Rattle.device.specs.Devices.{device_view, no_device};
 ghost use Rattle.device.specs.Lawful.{Allowed, applied};
 ghost use Rattle.device.specs.Regularity.{IsRegularRecord};
-ghost use Rattle.deploy_state.specs.Objects.{Holds};
+ghost use Rattle.deploy_state.specs.Objects.{OwnsOver};
 ghost use Rattle.deploy_state.specs.States.{OwnsBooting, OwnsIdle, booting_device, idle_device};
 
 use crate::stores::record_named;
@@ -27,7 +27,7 @@ fn create<D: Disk, J: Journal + Drop>(
     origin: Origin,
 ) -> Option<Idle<J>>
     requires short { length origin.root ≤ 1024 }
-    ensures held { IfSome result (λ s. Holds D.Disk J.Journal OwnsIdle s disk.new) }
+    ensures held { IfSome result (λ s. OwnsOver D.Disk J.Journal OwnsIdle s disk.new) }
     ensures made { IfSome result (λ s. idle_device s ≡ applied no_device (stored.Genesis origin)) }
 {
     let found: Result<J, FindFault> = J::find(disk);
@@ -57,7 +57,7 @@ fn origin_of(alloc: Global) -> Option<Origin> {
 
 /// Makes a store, where the disk has none, and the device for which its journal stands once more.
 fn begin<D: Disk, J: Journal + Drop>(alloc: Global, disk: &mut D) -> Option<(Idle<J>, Device)>
-    ensures held { IfSome result (λ r. Holds D.Disk J.Journal OwnsIdle r.0 disk.new) }
+    ensures held { IfSome result (λ r. OwnsOver D.Disk J.Journal OwnsIdle r.0 disk.new) }
     ensures twin { IfSome result (λ r. device_view r.1 ≡ idle_device r.0) }
 {
     let origin = origin_of(alloc)?;
@@ -123,9 +123,9 @@ fn accept<D: Disk, J: Journal + Drop>(
     bytes: &[u8],
     id: &[u8],
 ) -> Option<Booting<J>>
-    requires held { Holds D.Disk J.Journal OwnsIdle idle disk.old }
+    requires held { OwnsOver D.Disk J.Journal OwnsIdle idle disk.old }
     requires twin { device_view twin.old ≡ idle_device idle }
-    ensures held { IfSome result (λ s. Holds D.Disk J.Journal OwnsBooting s disk.new) }
+    ensures held { IfSome result (λ s. OwnsOver D.Disk J.Journal OwnsBooting s disk.new) }
     ensures twin { IfSome result (λ s. device_view twin.new ≡ booting_device s) }
 {
     let Some(plan) = take_plan(alloc, twin, bytes) else {
@@ -154,9 +154,9 @@ fn close<D: Disk, J: Journal + Drop>(
     booting: Booting<J>,
     twin: &mut Device,
 ) -> Option<Idle<J>>
-    requires held { Holds D.Disk J.Journal OwnsBooting booting disk.old }
+    requires held { OwnsOver D.Disk J.Journal OwnsBooting booting disk.old }
     requires twin { device_view twin.old ≡ booting_device booting }
-    ensures held { IfSome result (λ s. Holds D.Disk J.Journal OwnsIdle s disk.new) }
+    ensures held { IfSome result (λ s. OwnsOver D.Disk J.Journal OwnsIdle s disk.new) }
     ensures twin { IfSome result (λ s. device_view twin.new ≡ idle_device s) }
 {
     let Ok(()) = twin.apply(alloc, Record::Activating) else {
@@ -198,7 +198,7 @@ fn long_recipe(alloc: Global) -> Result<Vec<u8>, Fail> {
 }
 
 /// Puts what stands before the recipe of a plan of the component `a`, whose id has this number.
-fn put_front(bytes: &mut Vec<u8>, number: [u8; 2]) -> Result<(), NoMemory> {
+fn put_beginning(bytes: &mut Vec<u8>, number: [u8; 2]) -> Result<(), NoMemory> {
     let [tens, ones] = number;
     bytes.push(0x12)?;
     put(bytes, &[b'c', tens, ones])?;
@@ -211,7 +211,7 @@ fn put_front(bytes: &mut Vec<u8>, number: [u8; 2]) -> Result<(), NoMemory> {
 /// Puts that plan with this recipe, whose configuration has the number too.
 fn put_plan(bytes: &mut Vec<u8>, recipe: &[u8], number: [u8; 2]) -> Result<(), NoMemory> {
     let [tens, ones] = number;
-    put_front(bytes, number)?;
+    put_beginning(bytes, number)?;
     put(bytes, recipe)?;
     put(bytes, &[b'{', b'"', b'n', b'"', b':', tens, ones, b'}'])?;
     Ok(bytes.extend_from_slice(&[0, 0, 0, 0, 0, 0, 0, 0])?)
@@ -238,9 +238,9 @@ fn deploy<D: Disk, J: Journal + Drop>(
     recipe: &[u8],
     number: [u8; 2],
 ) -> Option<Idle<J>>
-    requires held { Holds D.Disk J.Journal OwnsIdle idle disk.old }
+    requires held { OwnsOver D.Disk J.Journal OwnsIdle idle disk.old }
     requires twin { device_view twin.old ≡ idle_device idle }
-    ensures held { IfSome result (λ s. Holds D.Disk J.Journal OwnsIdle s disk.new) }
+    ensures held { IfSome result (λ s. OwnsOver D.Disk J.Journal OwnsIdle s disk.new) }
     ensures twin { IfSome result (λ s. device_view twin.new ≡ idle_device s) }
 {
     let Ok(bytes) = plan_bytes(alloc, recipe, number) else {
@@ -262,7 +262,7 @@ fn deploy_all<D: Disk, J: Journal + Drop>(
     twin: &mut Device,
     recipe: &[u8],
 ) -> u8
-    requires held { Holds D.Disk J.Journal OwnsIdle idle disk.old }
+    requires held { OwnsOver D.Disk J.Journal OwnsIdle idle disk.old }
     requires twin { device_view twin.old ≡ idle_device idle }
 {
     let mut idle = idle;

@@ -11,7 +11,7 @@ fn calls(alloc: Global, numbers: &[u64]) -> Result<List<u64>, AllocError> {
 }
 
 /// What is read of a source up to five bytes, by way of the bound.
-fn front<S: Source>(alloc: Global, source: &mut S) -> Result<Bytes, ReadFault> {
+fn prefix<S: Source>(alloc: Global, source: &mut S) -> Result<Bytes, ReadFault> {
     read_up_to(alloc, source, 5)
 }
 
@@ -43,11 +43,11 @@ fn size(incoming: &Incoming) -> Option<usize> {
 fn sources_and_sinks_pass_bytes_on(rt: HostRuntime) -> Result<(), Fail> {
     let alloc = rt.alloc();
     let mut memory = MemorySource::new(Bytes::from_slice(alloc, b"seven b")?, calls(alloc, &[1])?);
-    assert!(rt; front(alloc, &mut memory)?.as_slice() == b"seven".as_slice());
-    assert!(rt; front(alloc, &mut memory).err() == Some(ReadFault::Edge));
-    assert!(rt; front(alloc, &mut memory)?.as_slice() == b" b".as_slice());
+    assert!(rt; prefix(alloc, &mut memory)?.as_slice() == b"seven".as_slice());
+    assert!(rt; prefix(alloc, &mut memory).err() == Some(ReadFault::Edge));
+    assert!(rt; prefix(alloc, &mut memory)?.as_slice() == b" b".as_slice());
     let mut reader = ReadSource::new(b"seven b".as_slice());
-    assert!(rt; front(alloc, &mut reader)?.as_slice() == b"seven".as_slice());
+    assert!(rt; prefix(alloc, &mut reader)?.as_slice() == b"seven".as_slice());
     let mut sink = MemorySink::new(alloc, calls(alloc, &[2])?);
     assert!(rt; print(&mut sink).is_ok());
     assert!(rt; print(&mut sink) == Err(EdgeFault));

@@ -12,12 +12,12 @@ use Rattle.lifecycle.specs.declared.kinds.After.TheVariants as after
 use Rattle.lifecycle.specs.declared.kinds.LifeAct.{LifeAct}
 use Rattle.lifecycle.specs.declared.kinds.LifeEvent.{LifeEvent}
 use Rattle.lifecycle.specs.declared.kinds.LifeEvent.TheVariants as event
-use Rattle.components.specs.Acts.{Move, Quietly}
+use Rattle.components.specs.Acts.{Move, MovesInOrder}
 use Rattle.components.specs.Answers.{has_answered}
 use Rattle.components.specs.Changes.{Coming, all_stopped, changed_to, coming_again, coming_for, counted, fate, forgetting, fresh_part, is_replaced}
 use Rattle.components.specs.Changes.{is_replacing, leaving, meeting, replacing, replanned, standing, staying, steadied, with_items, with_newcomers}
 use Rattle.components.specs.Changes.{with_texts}
-use Rattle.components.specs.Events.{answered_at, gone_by, is_orphan_at, kill_event_at, killed, ended, launched, refused, skipped, started, told_at, with_child}
+use Rattle.components.specs.Events.{answered_at, gone_by, is_orphan_at, kill_event_at, killed, ended, launched, refused, skipped, started, heard_at, with_child}
 use Rattle.components.specs.Fitted.{Fitted, is_same_item, steps_of}
 use Rattle.components.specs.Lives.{drops_at, lived, lived_at, replaced}
 use Rattle.components.specs.Marks.{Flagged, flagged, flagged_at, grown, marked, may_replan, may_restart, reaching, restarted}
@@ -146,7 +146,7 @@ free_killed n w a = by (owner n w.parts)
     by None = a
     by (Some y) = free_gone_by (kill_event_at y.0 y.1 n w) y.0 y.1 n w a
 
-pub free_told : (k : ℕ) (w : Components) → AreFree w.parts → AreFree (told_at k w).parts
+pub free_told : (k : ℕ) (w : Components) → AreFree w.parts → AreFree (heard_at k w).parts
 free_told k w a = free_changed (λ p. record p { owed = None }) (λ p h. h) k w.parts a
 
 free_launched : (s : Step) (k : ℕ) (w : Components) → AreFree w.parts → AreFree (launched s k w).parts
@@ -171,7 +171,7 @@ free_refused k s w a = free_lived_at k (event.Ended s exits.NotStarted) (answere
 pub free_skipped : (k : ℕ) (w : Components) → AreFree w.parts → AreFree (skipped k w).parts
 free_skipped k w a = free_lived_at k event.Skipped (answered_at k w) (free_closed k w a)
 
-pub free_quietly : (ms : List Move) (w v : Components) → Quietly w ms v → AreFree w.parts → AreFree v.parts
+pub free_quietly : (ms : List Move) (w v : Components) → MovesInOrder w ms v → AreFree w.parts → AreFree v.parts
 free_quietly [] w v q a = subst (λ (u : Components). AreFree u.parts) (sym q) a
 free_quietly (m ∷ ms) w v q a = free_quietly ms (lived_at m.who m.what w) v q.2 (free_lived_at m.who m.what w a)
 

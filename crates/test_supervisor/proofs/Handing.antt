@@ -7,7 +7,7 @@ use Rattle.nuc_base.specs.declared.kinds.Step.{Step}
 use Rattle.nuc_base.specs.declared.platform.Platform.{Platform}
 use Rattle.components.specs.Acts.{NextAct, OwesAt, HasStart}
 use Rattle.components.specs.Answers.{HasHanded}
-use Rattle.components.specs.Events.{handed_at, noticed, told_at}
+use Rattle.components.specs.Events.{handed_at, noticed, heard_at}
 use Rattle.components.specs.Changes.{all_stopped, changed_to, steadied}
 use Rattle.components.specs.Fitted.{Fitted, prepared_of}
 use Rattle.components.specs.Platforms.{AllFor}
@@ -18,7 +18,7 @@ use Rattle.components.specs.declared.kinds.Event.TheVariants.{Started, Refused, 
 use Rattle.components.proofs.Each.{at_below, length_changed}
 use Rattle.components.proofs.Handed.{refused-handed, skipped-handed, started-handed}
 use Rattle.components.proofs.Platforms.{run_change, run_next, run_steadied, run_stopped}
-use Rattle.test_supervisor.specs.Stands.{Stands}
+use Rattle.test_supervisor.specs.Stands.{IsReadyFor}
 use Rattle.test_supervisor.proofs.Free.{AreFree, free_change, free_killed, free_quietly, free_refused, free_skipped, free_started, free_steadied}
 use Rattle.test_supervisor.proofs.Free.{free_stopped, free_told}
 
@@ -52,7 +52,7 @@ free_skip k s w a = subst (λ (x : Components). AreFree x.parts) (sym (skipped-h
 
 -- ---- a failure
 
-owes_below : (k : ℕ) (s : Step) (e : Exit) (b : Bool) (u v : Components) → OwesAt u k s e b → v ≡ told_at k u → k < length v.parts
+owes_below : (k : ℕ) (s : Step) (e : Exit) (b : Bool) (u v : Components) → OwesAt u k s e b → v ≡ heard_at k u → k < length v.parts
 owes_below k s e b u v owes is =
     let below : k < length u.parts = at_below (λ p. (p.owed ≡ Some (s, e)) × (is_broken p.life.state ≡ b) × (place_of (component_name p) u.parts ≡ Some k))
     u.parts k owes in
@@ -67,45 +67,46 @@ broke_below k s e w v n = owes_below k s e true n.seen v n.hands.0 n.hands.1
 
 -- ---- what stays
 
-pub if_stands : (o : Option Origin) (w v : Components) → ((p : Platform) → Stands p w → Stands p v) → IfSome o (λ (x : Origin). Stands x.platform w) →
-    IfSome o (λ (x : Origin). Stands x.platform v)
+pub if_stands : (o : Option Origin) (w v : Components) → ((p : Platform) → IsReadyFor p w → IsReadyFor p v)
+    → IfSome o (λ (x : Origin). IsReadyFor x.platform w) →
+    IfSome o (λ (x : Origin). IsReadyFor x.platform v)
 if_stands None w v f h = tt
 if_stands (Some o) w v f h = f o.platform h
 
-pub stands_stopped : (platform : Platform) (w v : Components) → v ≡ all_stopped w → Stands platform w → Stands platform v
-stands_stopped platform w v is h = subst (λ (x : Components). Stands platform x) (sym is)
+pub stands_stopped : (platform : Platform) (w v : Components) → v ≡ all_stopped w → IsReadyFor platform w → IsReadyFor platform v
+stands_stopped platform w v is h = subst (λ (x : Components). IsReadyFor platform x) (sym is)
     (record { answered = free_stopped w h.answered; ready = run_stopped platform w h.ready })
 
-pub stands_steadied : (platform : Platform) (w v : Components) → v ≡ steadied w → Stands platform w → Stands platform v
-stands_steadied platform w v is h = subst (λ (x : Components). Stands platform x) (sym is)
+pub stands_steadied : (platform : Platform) (w v : Components) → v ≡ steadied w → IsReadyFor platform w → IsReadyFor platform v
+stands_steadied platform w v is h = subst (λ (x : Components). IsReadyFor platform x) (sym is)
     (record { answered = free_steadied w h.answered; ready = run_steadied platform w h.ready })
 
 pub stands_changed : (platform : Platform) (fs : List Fitted) (counts : List ℕ) (steady : Bool) (w v : Components) → v ≡ changed_to fs counts steady w →
-    AllFor platform fs → Stands platform w → Stands platform v
+    AllFor platform fs → IsReadyFor platform w → IsReadyFor platform v
 stands_changed platform fs counts steady w v is all h =
-    subst (λ (x : Components). Stands platform x) (sym is)
+    subst (λ (x : Components). IsReadyFor platform x) (sym is)
     (record { answered = free_change fs counts steady w h.answered; ready = run_change platform fs counts steady w all h.ready })
 
 module _ (platform : Platform) where
-  pub stands_none : (w v : Components) → NextAct w None v → Stands platform w → Stands platform v
+  pub stands_none : (w v : Components) → NextAct w None v → IsReadyFor platform w → IsReadyFor platform v
   stands_none w v n h = record {
     answered = subst (λ (x : Components). AreFree x.parts) (sym n.hands.1) (free_quietly n.made w n.seen n.quietly h.answered);
     ready = run_next platform w None v n h.ready;
   }
 
-  pub stands_killed : (c : ℕ) (w v : Components) → NextAct w (Some (acts.Kill c)) v → Stands platform w → Stands platform v
+  pub stands_killed : (c : ℕ) (w v : Components) → NextAct w (Some (acts.Kill c)) v → IsReadyFor platform w → IsReadyFor platform v
   stands_killed c w v n h = record {
     answered = subst (λ (x : Components). AreFree x.parts) (sym n.hands.4) (free_killed c n.seen (free_quietly n.made w n.seen n.quietly h.answered));
     ready = run_next platform w (Some (acts.Kill c)) v n h.ready;
   }
 
-  pub stands_failed : (k : ℕ) (s : Step) (e : Exit) (w v : Components) → NextAct w (Some (acts.Failed k s e)) v → Stands platform w → Stands platform v
+  pub stands_failed : (k : ℕ) (s : Step) (e : Exit) (w v : Components) → NextAct w (Some (acts.Failed k s e)) v → IsReadyFor platform w → IsReadyFor platform v
   stands_failed k s e w v n h = record {
     answered = subst (λ (x : Components). AreFree x.parts) (sym n.hands.1) (free_told k n.seen (free_quietly n.made w n.seen n.quietly h.answered));
     ready = run_next platform w (Some (acts.Failed k s e)) v n h.ready;
   }
 
-  pub stands_broke : (k : ℕ) (s : Step) (e : Exit) (w v : Components) → NextAct w (Some (acts.Broke k s e)) v → Stands platform w → Stands platform v
+  pub stands_broke : (k : ℕ) (s : Step) (e : Exit) (w v : Components) → NextAct w (Some (acts.Broke k s e)) v → IsReadyFor platform w → IsReadyFor platform v
   stands_broke k s e w v n h = record {
     answered = subst (λ (x : Components). AreFree x.parts) (sym n.hands.1) (free_told k n.seen (free_quietly n.made w n.seen n.quietly h.answered));
     ready = run_next platform w (Some (acts.Broke k s e)) v n h.ready;

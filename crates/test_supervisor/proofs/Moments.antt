@@ -3,7 +3,7 @@ use Rattle.std.proofs.Common.{◌≡◌, ◌∙◌, ℕ, List, [], ◌∷◌, Bo
 use Rattle.std.specs.Prelude.{if◌then◌else◌}
 use Rattle.nuc_base.specs.declared.kinds.Step.{Step}
 use Rattle.lifecycle.specs.declared.kinds.LifeEvent.{LifeEvent}
-use Rattle.components.specs.Acts.{Move, NextAct, HandsOut, Quietly}
+use Rattle.components.specs.Acts.{Move, NextAct, HandsOut, MovesInOrder}
 use Rattle.components.specs.Events.{gone_by, is_orphan_at, kill_event_at, killed}
 use Rattle.components.specs.Lives.{lived_at}
 use Rattle.components.specs.Components.{Components, child_gone, owner}
@@ -25,7 +25,7 @@ moment_killed n w = by (owner n w.parts)
     by None = refl
     by (Some y) = moment_gone (kill_event_at y.0 y.1 n w) y.0 y.1 n w
 
-moment_quietly : (ms : List Move) (w v : Components) → Quietly w ms v → v.moment ≡ w.moment
+moment_quietly : (ms : List Move) (w v : Components) → MovesInOrder w ms v → v.moment ≡ w.moment
 moment_quietly [] w v q = ap (λ (u : Components). u.moment) q
 moment_quietly (m ∷ ms) w v q = moment_quietly ms (lived_at m.who m.what w) v q.2
 

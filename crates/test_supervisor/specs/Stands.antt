@@ -10,6 +10,6 @@ abbrev pub AreAnswered : List ComponentState → Type 0
 AreAnswered parts = AllByRecursion (λ (p : ComponentState). p.handed ≡ false) parts
 
 -- so it is, and all were made ready for the platform
-pub record Stands (platform : Platform) (w : Components) : Type 0 where
+pub record IsReadyFor (platform : Platform) (w : Components) : Type 0 where
   pub answered : AreAnswered w.parts
   pub ready : AllRunFor platform w.parts

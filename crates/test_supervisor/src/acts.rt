@@ -6,12 +6,12 @@ ghost use Rattle.device.specs.Devices.{device_view, IsRegularDevice};
 ghost use Rattle.device.specs.Plans.{AreItems, AreRegularItems};
 ghost use Rattle.device.specs.Sound.{IsSound};
 ghost use Rattle.components.specs.Acts.{HasStart};
-ghost use Rattle.components.specs.Answers.{Answers, HasHanded};
+ghost use Rattle.components.specs.Answers.{IsExpected, HasHanded};
 ghost use Rattle.components.specs.Events.{handed_at, noticed};
 ghost use Rattle.components.specs.Fitted.{prepared_of};
 ghost use Rattle.components.specs.Platforms.{AllRunFor};
 ghost use Rattle.components.specs.Components.{At, Components, owner};
-ghost use Rattle.test_supervisor.specs.Stands.{AreAnswered, Stands};
+ghost use Rattle.test_supervisor.specs.Stands.{AreAnswered, IsReadyFor};
 
 use components::{Act, Event, Mode, one_platform};
 use device::Device;
@@ -63,7 +63,7 @@ fn answer_of(supervisor: &Supervisor, who: u32, step: Step, child: u64) -> Event
     requires handed { HasHanded who step supervisor.now }
     requires prepared { At who (λ p. IsSome (prepared_of p.fitted step)) supervisor.now.parts }
     requires free { owner child supervisor.now.parts ≡ None }
-    ensures answers { Answers supervisor.now result }
+    ensures answers { IsExpected supervisor.now result }
     ensures answered { (w : Components) → AreAnswered w.parts → AreAnswered (noticed result (handed_at who w)).parts }
 {
     if supervisor.skip(who, step).is_some() {
@@ -173,7 +173,7 @@ fn take_act(
     requires moment { supervisor.old.moment ≡ now }
     requires in_time { now < 2 ^ 62 }
     ensures moment { OnOk result (supervisor.new.moment ≡ now) }
-    ensures stands { OnOk result ((p : Platform) → Stands p supervisor.old → Stands p supervisor.new) }
+    ensures stands { OnOk result ((p : Platform) → IsReadyFor p supervisor.old → IsReadyFor p supervisor.new) }
 {
     match supervisor.next_act() {
         None => return Ok(false),
@@ -201,7 +201,7 @@ pub(crate) fn take_acts(
     requires moment { supervisor.old.moment ≡ now }
     requires in_time { now < 2 ^ 62 }
     ensures moment { OnOk result (supervisor.new.moment ≡ now) }
-    ensures stands { OnOk result ((p : Platform) → Stands p supervisor.old → Stands p supervisor.new) }
+    ensures stands { OnOk result ((p : Platform) → IsReadyFor p supervisor.old → IsReadyFor p supervisor.new) }
 {
     for _act in 0..1000 {
         if !take_act(alloc, supervisor, seen, now)? {
@@ -216,7 +216,7 @@ pub(crate) fn end(supervisor: &mut Supervisor, child: u64, exit: Exit, now: u64)
     requires moment { supervisor.old.moment ≡ now }
     requires in_time { now < 2 ^ 62 }
     ensures moment { supervisor.new.moment ≡ now }
-    ensures stands { (p : Platform) → Stands p supervisor.old → Stands p supervisor.new }
+    ensures stands { (p : Platform) → IsReadyFor p supervisor.old → IsReadyFor p supervisor.new }
 {
     if !lives(supervisor, child) {
         return false;
@@ -242,9 +242,9 @@ fn change_to(
 ) -> Result<(), NoMemory>
     requires items { AreItems origin.now.platform (map item_view items.now) }
     requires regular { AreRegularItems (map item_view items.now) }
-    requires stands { Stands origin.now.platform supervisor.old }
+    requires stands { IsReadyFor origin.now.platform supervisor.old }
     ensures moment { supervisor.new.moment ≡ supervisor.old.moment }
-    ensures stands { Stands origin.now.platform supervisor.new }
+    ensures stands { IsReadyFor origin.now.platform supervisor.new }
 {
     one_platform();
     let ready = supervisor.ready(alloc, origin, items)?;
@@ -262,9 +262,9 @@ pub(crate) fn change(
 ) -> Result<bool, NoMemory>
     requires sound { IsSound (device_view device.now) }
     requires regular { IsRegularDevice (device_view device.now) }
-    requires stands { IfSome device.now.origin (λ o. Stands o.platform supervisor.old) }
+    requires stands { IfSome device.now.origin (λ o. IsReadyFor o.platform supervisor.old) }
     ensures moment { supervisor.new.moment ≡ supervisor.old.moment }
-    ensures stands { IfSome device.now.origin (λ o. Stands o.platform supervisor.new) }
+    ensures stands { IfSome device.now.origin (λ o. IsReadyFor o.platform supervisor.new) }
 {
     let (Some(origin), Some(pending)) = (&device.origin, &device.pending) else {
         return Ok(false);

@@ -3,7 +3,7 @@ ghost use Rattle.std.specs.Prelude.{◌≡◌, ◌<◌, ◌^◌, IfSome, OnOk};
 ghost use Rattle.nuc_base.specs.declared.platform.Platform.{Platform};
 ghost use Rattle.device.specs.Devices.{device_view, IsRegularDevice};
 ghost use Rattle.device.specs.Sound.{IsSound};
-ghost use Rattle.test_supervisor.specs.Stands.{Stands};
+ghost use Rattle.test_supervisor.specs.Stands.{IsReadyFor};
 
 use crate::acts::{Seen, change, end, take_acts};
 use crate::devices::device_of;
@@ -188,7 +188,7 @@ fn end_by(supervisor: &mut Supervisor, word: &str, now: u64) -> bool
     requires moment { supervisor.old.moment ≡ now }
     requires in_time { now < 2 ^ 62 }
     ensures moment { supervisor.new.moment ≡ now }
-    ensures stands { (p : Platform) → Stands p supervisor.old → Stands p supervisor.new }
+    ensures stands { (p : Platform) → IsReadyFor p supervisor.old → IsReadyFor p supervisor.new }
 {
     let mut words = word.splitn(2, '=');
     let child = words.next().unwrap_or("").parse::<u64>();
@@ -214,9 +214,9 @@ fn tell(
     requires regular { IsRegularDevice (device_view device.now) }
     requires moment { supervisor.old.moment ≡ now }
     requires in_time { now < 2 ^ 62 }
-    requires stands { IfSome device.now.origin (λ o. Stands o.platform supervisor.old) }
+    requires stands { IfSome device.now.origin (λ o. IsReadyFor o.platform supervisor.old) }
     ensures moment { supervisor.new.moment ≡ now }
-    ensures stands { IfSome device.now.origin (λ o. Stands o.platform supervisor.new) }
+    ensures stands { IfSome device.now.origin (λ o. IsReadyFor o.platform supervisor.new) }
 {
     match word {
         "serve" => change(alloc, supervisor, device, false, Mode::Steady),
@@ -246,9 +246,9 @@ fn tell_all(
     requires regular { IsRegularDevice (device_view device.now) }
     requires moment { supervisor.old.moment ≡ now }
     requires in_time { now < 2 ^ 62 }
-    requires stands { IfSome device.now.origin (λ o. Stands o.platform supervisor.old) }
+    requires stands { IfSome device.now.origin (λ o. IsReadyFor o.platform supervisor.old) }
     ensures moment { supervisor.new.moment ≡ now }
-    ensures stands { IfSome device.now.origin (λ o. Stands o.platform supervisor.new) }
+    ensures stands { IfSome device.now.origin (λ o. IsReadyFor o.platform supervisor.new) }
 {
     for word in words.split_whitespace() {
         if !tell(alloc, supervisor, device, word, now)? {
@@ -269,7 +269,7 @@ fn is_answer(
     requires moment { supervisor.old.moment ≡ now }
     requires in_time { now < 2 ^ 62 }
     ensures moment { OnOk result (supervisor.new.moment ≡ now) }
-    ensures stands { OnOk result ((p : Platform) → Stands p supervisor.old → Stands p supervisor.new) }
+    ensures stands { OnOk result ((p : Platform) → IsReadyFor p supervisor.old → IsReadyFor p supervisor.new) }
 {
     take_acts(alloc, supervisor, seen, now)?;
     let acts = seen.take(alloc);
@@ -292,10 +292,10 @@ fn is_line(
     requires regular { IsRegularDevice (device_view device.now) }
     requires moment { supervisor.old.moment ≡ now.old }
     requires in_time { now.old < 2 ^ 62 }
-    requires stands { IfSome device.now.origin (λ o. Stands o.platform supervisor.old) }
+    requires stands { IfSome device.now.origin (λ o. IsReadyFor o.platform supervisor.old) }
     ensures moment { OnOk result (supervisor.new.moment ≡ now.new) }
     ensures in_time { now.new < 2 ^ 62 }
-    ensures stands { OnOk result (IfSome device.now.origin (λ o. Stands o.platform supervisor.new)) }
+    ensures stands { OnOk result (IfSome device.now.origin (λ o. IsReadyFor o.platform supervisor.new)) }
 {
     let mut fields = line.splitn(4, '|');
     let moment = fields.next().unwrap_or("").parse::<u64>().unwrap_or(0);
@@ -325,7 +325,7 @@ fn first_wrong_of<'a>(
     requires sound { IsSound (device_view device.now) }
     requires regular { IsRegularDevice (device_view device.now) }
     requires moment { supervisor.old.moment ≡ 0 }
-    requires stands { IfSome device.now.origin (λ o. Stands o.platform supervisor.old) }
+    requires stands { IfSome device.now.origin (λ o. IsReadyFor o.platform supervisor.old) }
 {
     let mut now = 0;
     for line in lines.lines() {

@@ -3,7 +3,7 @@
 ghost use Rattle.std.specs.Prelude.{◌≡◌, IfOk, IfSome, OnOk};
 ghost use Rattle.device.specs.Devices.{device_view, IsRegularDevice};
 ghost use Rattle.device.specs.Sound.{IsSound};
-ghost use Rattle.test_supervisor.specs.Stands.{Stands};
+ghost use Rattle.test_supervisor.specs.Stands.{IsReadyFor};
 
 use crate::acts::{Seen, change, end, take_acts};
 use crate::devices::device_of;
@@ -161,7 +161,7 @@ fn is_line_of(
     requires sound { IsSound (device_view device.now) }
     requires regular { IsRegularDevice (device_view device.now) }
     requires moment { supervisor.old.moment ≡ 0 }
-    requires stands { IfSome device.now.origin (λ o. Stands o.platform supervisor.old) }
+    requires stands { IfSome device.now.origin (λ o. IsReadyFor o.platform supervisor.old) }
 {
     let mut fields = line.split(' ');
     let order = fields.next().unwrap_or("");

@@ -22,7 +22,7 @@ fn digit(word: &str, from_end: usize) -> u8 {
 }
 
 /// The word without so many bytes at its end.
-fn front(word: &str, less: usize) -> &str {
+fn prefix(word: &str, less: usize) -> &str {
     word.get(..word.len().saturating_sub(less)).unwrap_or("")
 }
 
@@ -32,7 +32,7 @@ fn name_in(word: &str) -> &str {
         Some((name, _)) => name,
         None => match word.split_once('~') {
             Some((name, _)) => name,
-            None => front(word, 2),
+            None => prefix(word, 2),
         },
     }
 }
@@ -100,7 +100,7 @@ fn push_head(text: &mut String, head: &str) -> Result<(), AllocError> {
         text.push_str(between)?;
         text.push_str(version)?;
     } else {
-        text.push_str(front(head, 1))?;
+        text.push_str(prefix(head, 1))?;
         text.push_str(between)?;
         text.push(digit(head, 0) as char)?;
         text.push_str(".0.0")?;

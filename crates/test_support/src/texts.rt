@@ -3,8 +3,8 @@ use std::alloc::{AllocError, Global};
 use std::test::Fail;
 
 /// The three texts, one behind another.
-pub fn joined(alloc: Global, front: &str, middle: &str, back: &str) -> Result<Text, Fail> {
-    let mut text = Text::from_str(alloc, front)?;
+pub fn joined(alloc: Global, prefix: &str, middle: &str, back: &str) -> Result<Text, Fail> {
+    let mut text = Text::from_str(alloc, prefix)?;
     text.push_str(middle)?;
     text.push_str(back)?;
     Ok(text)
@@ -50,12 +50,12 @@ fn push_parts(
 /// it and what stands behind it.
 pub fn repeated(
     alloc: Global,
-    front: &str,
+    prefix: &str,
     part: (&str, &str),
     count: u32,
     back: &str,
 ) -> Result<String, AllocError> {
-    let mut text = String::from_str(alloc, front)?;
+    let mut text = String::from_str(alloc, prefix)?;
     push_parts(alloc, &mut text, part, count)?;
     text.push_str(back)?;
     Ok(text)
@@ -65,7 +65,7 @@ pub fn repeated(
 /// has none.
 pub fn repeated_of(
     alloc: Global,
-    front: &str,
+    prefix: &str,
     row: &str,
     back: &str,
 ) -> Result<Option<String>, AllocError> {
@@ -76,7 +76,7 @@ pub fn repeated_of(
         return Ok(None);
     };
     match count.parse::<u32>() {
-        Ok(count) => Ok(Some(repeated(alloc, front, part, count, back)?)),
+        Ok(count) => Ok(Some(repeated(alloc, prefix, part, count, back)?)),
         Err(_) => Ok(None),
     }
 }

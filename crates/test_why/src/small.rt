@@ -67,11 +67,11 @@ fn gives_the_first_reason(rt: HostRuntime) -> Result<(), Fail> {
     Ok(())
 }
 
-/// Whether a sink that fails the call of this number gets a front of the text.
-fn is_front(alloc: Global, call: u64) -> Result<bool, Fail> {
+/// Whether a sink that fails the call of this number gets a prefix of the text.
+fn is_prefix(alloc: Global, call: u64) -> Result<bool, Fail> {
     let found = told_to(alloc, NO_VERSION, "A:* B:*", &[call])?;
     match found.as_str().strip_suffix('!') {
-        Some(front) => Ok(NO_VERSION_TEXT.starts_with(front)),
+        Some(prefix) => Ok(NO_VERSION_TEXT.starts_with(prefix)),
         None => Ok(false),
     }
 }
@@ -81,7 +81,7 @@ fn is_front(alloc: Global, call: u64) -> Result<bool, Fail> {
 fn cuts_the_text_where_the_sink_fails(rt: HostRuntime) -> Result<(), Fail> {
     let alloc = rt.alloc();
     for call in 0..20 {
-        assert!(rt; is_front(alloc, call)?, "{call}");
+        assert!(rt; is_prefix(alloc, call)?, "{call}");
     }
     let text = told_to(alloc, NO_VERSION, "A:* B:*", &[1000])?;
     assert!(rt; text.as_str() == NO_VERSION_TEXT, "{text}");

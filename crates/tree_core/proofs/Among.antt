@@ -3,7 +3,7 @@ use Rattle.std.proofs.Common.{◌≡◌, ℕ, ◌<◌, ◌≤◌, ◌+◌, List,
 use Rattle.std.specs.List.{AllZip}
 use Rattle.std.specs.Result.{IsErrAnd}
 use Rattle.serde_json.specs.Data.{array, object}
-use Rattle.nuc_base.specs.Tables.{Table, AllHold, Answers, Faults, Passes, each}
+use Rattle.nuc_base.specs.Tables.{Table, AllHold, AnswerBy, IsFaultBy, IsPass, each}
 use Rattle.nuc_base.proofs.Tables.{handed_on, passes_start, goes_more, goes_fault, goes_end}
 use Rattle.tree_core.specs.Regular.{IsRegular}
 use Rattle.tree_core.specs.View.{view, fields_view, items_view}
@@ -12,26 +12,26 @@ use Rattle.tree_core.proofs.Fields.{Field}
 use Rattle.tree_core.proofs.RegularParts.{AreRegular, ItemsAreRegular, members_regular, items_regular, field_regular, item_regular}
 
 module _ {X A B Fault : Type 0} (f : X → A) (lines : A → Table Fault) (Is : A → B → Type 0) where
-  pub among_start : (xs : List X) (done : List B) → done ≡ [] → Passes lines Is (map f xs) (map f xs) done
-  among_start xs done e = subst (λ (ys : List B). Passes lines Is (map f xs) (map f xs) ys) (sym e) (passes_start lines Is (map f xs))
+  pub among_start : (xs : List X) (done : List B) → done ≡ [] → IsPass lines Is (map f xs) (map f xs) done
+  among_start xs done e = subst (λ (ys : List B). IsPass lines Is (map f xs) (map f xs) ys) (sym e) (passes_start lines Is (map f xs))
 
   pub among_more : (xs : List X) (i : ℕ) (x : X) (done next : List B) (y : B) → i < length xs → x ≡ get_or xs i x
-      → Passes lines Is (map f xs) (map f (drop i xs)) done → AllHold (lines (f x)) × Is (f x) y → next ≡ done ++ y ∷ []
-      → Passes lines Is (map f xs) (map f (drop (i + 1) xs)) next
+      → IsPass lines Is (map f xs) (map f (drop i xs)) done → AllHold (lines (f x)) × Is (f x) y → next ≡ done ++ y ∷ []
+      → IsPass lines Is (map f xs) (map f (drop (i + 1) xs)) next
   among_more xs i x done next y below at p h e =
-      subst (λ (ys : List B). Passes lines Is (map f xs) (map f (drop (i + 1) xs)) ys) (sym e) (goes_more f lines Is (map f xs) xs i x done y below at p h.0
+      subst (λ (ys : List B). IsPass lines Is (map f xs) (map f (drop (i + 1) xs)) ys) (sym e) (goes_more f lines Is (map f xs) xs i x done y below at p h.0
       h.1)
 
   -- xs is what the loop goes over, ys what was lent
   pub among_fault : (memory : Fault) (xs ys : List X) (i : ℕ) (x : X) (done : List B) (fault : Fault) (result : Result (List B) Fault) → xs ≡ ys →
       i < length xs → x ≡ get_or xs i x
-      → Passes lines Is (map f xs) (map f (drop i xs)) done → Faults memory (lines (f x)) fault → IsErrAnd result (λ e. e ≡ fault)
-      → Answers memory (each lines (map f ys)) (AllZip Is (map f ys)) result
+      → IsPass lines Is (map f xs) (map f (drop i xs)) done → IsFaultBy memory (lines (f x)) fault → IsErrAnd result (λ e. e ≡ fault)
+      → AnswerBy memory (each lines (map f ys)) (AllZip Is (map f ys)) result
   among_fault memory xs ys i x done fault result same below at p h e =
       handed_on memory (each lines (map f ys)) (AllZip Is (map f ys)) result fault e
-      (subst (λ (zs : List X). Faults memory (each lines (map f zs)) fault) same (goes_fault memory f lines Is (map f xs) xs i x done fault below at p h))
+      (subst (λ (zs : List X). IsFaultBy memory (each lines (map f zs)) fault) same (goes_fault memory f lines Is (map f xs) xs i x done fault below at p h))
 
-  pub among_end : (xs ys : List X) (i : ℕ) (done all : List B) → xs ≡ ys → length xs ≤ i → Passes lines Is (map f xs) (map f (drop i xs)) done → all ≡ done
+  pub among_end : (xs ys : List X) (i : ℕ) (done all : List B) → xs ≡ ys → length xs ≤ i → IsPass lines Is (map f xs) (map f (drop i xs)) done → all ≡ done
       → AllHold (each lines (map f ys)) × AllZip Is (map f ys) all
   among_end xs ys i done all same past p e =
       let end = goes_end f lines Is (map f xs) xs i done past p in

@@ -6,7 +6,7 @@ use Rattle.nuc_base.proofs.Lists.{in_map, from_map}
 use Rattle.recipe_reader.specs.Members.{Need, Member}
 use Rattle.recipe_reader.specs.Sets.{name_of, needs_of, required_names, IsMetBy}
 use Rattle.recipe_reader.proofs.Required.{required_from, required_by_wanted, required_by_need}
-use Rattle.recipe_reader.specs.Searches.{Suits}
+use Rattle.recipe_reader.specs.Searches.{IsSuited}
 use Rattle.why_not.specs.Certificates.{IsAgainst, AsksFor, DependsOn}
 
 pub asks_here : {X : Type 0} (f : X → Need) (xs : List X) (n : List ℕ) (x : X) → Contains xs x → (f x).name ≡ n → AsksFor (map f xs) n
@@ -54,7 +54,7 @@ required_none ms wanted taken n a b i = elim (required_from ms wanted taken n i)
 ]
 
 pub suits_all : {X : Type 0} (f : X → Need) (ms : List Member) (xs : List X) (p : ℕ) → ((x : X) → Contains xs x → name_of ms p ≡ Some (f x).name →
-    IsMetBy ms (f x).name (f x).range p) → Suits ms (map f xs) p
+    IsMetBy ms (f x).name (f x).range p) → IsSuited ms (map f xs) p
 suits_all f ms xs p h d i e =
     let r = from_map f xs d i in
     subst (λ (y : Need). IsMetBy ms y.name y.range p) r.2 (h r.0 r.1 (e ∙ ap (λ (y : Need). Some y.name) (sym r.2)))

@@ -3,27 +3,27 @@ use Rattle.std.proofs.Common.{◌≡◌, ℕ, ◌<◌, List, [], ◌∷◌, ◌+
 use Rattle.std.specs.List.{All, Contains}
 use Rattle.std.specs.List.Sorted.{IsStrictlyIncreasing}
 use Rattle.std.proofs.lemmas.List.Elements.{Contains-append_left, Contains-push, Contains-push_cases}
-use Rattle.nuc_base.specs.Leads.{Leads, direct, through}
+use Rattle.nuc_base.specs.Leads.{HasPath, direct, through}
 use Rattle.nuc_base.proofs.Lists.{in_nil, all_from_in}
 use Rattle.nuc_base.proofs.Leading.{leads_more}
 use Rattle.recipe_reader.specs.Members.{Need, Member}
-use Rattle.recipe_reader.specs.Sets.{name_of, needs_of, required_names, IsComplete, IsMet, IsReached, by_wanted, by_need, Needs, IsValid}
+use Rattle.recipe_reader.specs.Sets.{name_of, needs_of, required_names, IsComplete, IsMet, IsReached, by_wanted, by_need, HasDependency, IsValid}
 use Rattle.recipe_reader.proofs.Required.{required_from, required_by_wanted, required_by_need}
 use Rattle.recipe_reader.proofs.Searching.{IsConsistentWith, consistent_push, needs_more, within_from_name}
 use Rattle.recipe_reader.proofs.ValidSets.{AreWithin}
 use Rattle.why_not.specs.Certificates.{IsOpen}
-use Rattle.why_not.specs.Ends.{Stands}
+use Rattle.why_not.specs.Ends.{IsReachedSet}
 use Rattle.recipe_reader.proofs.OneSet.{rising_of}
 
 reached_more : (ms : List Member) (wanted : List Need) (s t : List ℕ) → AreWithin s t → {p : ℕ} → IsReached ms wanted s p → IsReached ms wanted t p
 reached_more ms wanted s t within (by_wanted {p} w i j e) = by_wanted w (within p i) j e
 reached_more ms wanted s t within (by_need {p} {q} r n) = by_need (reached_more ms wanted s t within r) (needs_more ms s t within p q n)
 
-none_leads : (ms : List Member) {p q : ℕ} → Leads (Needs ms []) p q → ⊥
+none_leads : (ms : List Member) {p q : ℕ} → HasPath (HasDependency ms []) p q → ⊥
 none_leads ms (direct {a = x} r) = in_nil x r.from
 none_leads ms (through {a = x} r m) = in_nil x r.from
 
-pub stands_nil : (ms : List Member) (wanted : List Need) → Stands ms wanted []
+pub stands_nil : (ms : List Member) (wanted : List Need) → IsReachedSet ms wanted []
 stands_nil ms wanted = record {
   single = λ p q i j e. absurd (in_nil p i);
   named = λ p i. absurd (in_nil p i);
@@ -52,8 +52,8 @@ reached_last ms wanted taken p n reached i e =
       })
     ]
 
-pub stands_push : (ms : List Member) (wanted : List Need) (taken : List ℕ) (p : ℕ) (n : List ℕ) → Stands ms wanted taken → IsOpen ms wanted taken n →
-    name_of ms p ≡ Some n → IsConsistentWith ms wanted taken p → Stands ms wanted (taken ++ p ∷ [])
+pub stands_push : (ms : List Member) (wanted : List Need) (taken : List ℕ) (p : ℕ) (n : List ℕ) → IsReachedSet ms wanted taken → IsOpen ms wanted taken n →
+    name_of ms p ≡ Some n → IsConsistentWith ms wanted taken p → IsReachedSet ms wanted (taken ++ p ∷ [])
 stands_push ms wanted taken p n s o e w = record {
   single = λ x y i j same. elim (Contains-push_cases taken p x i) [
     | inl a ↦ elim (Contains-push_cases taken p y j) [
@@ -76,7 +76,7 @@ stands_push ms wanted taken p n s o e w = record {
   consistent = consistent_push ms wanted taken p s.consistent w;
 }
 
-pub valid_as : (ms : List Member) (wanted : List Need) (taken s : List ℕ) → Stands ms wanted taken → IsComplete ms wanted taken → IsStrictlyIncreasing s →
+pub valid_as : (ms : List Member) (wanted : List Need) (taken s : List ℕ) → IsReachedSet ms wanted taken → IsComplete ms wanted taken → IsStrictlyIncreasing s →
     AreWithin taken s → AreWithin s taken → IsValid ms wanted s
 valid_as ms wanted taken s h done rising a b =
     let c = h.consistent in
@@ -93,6 +93,6 @@ valid_as ms wanted taken s h done rising a b =
       acyclic = λ p r. c.acyclic p (leads_more (needs_more ms s taken b) r);
     }
 
-pub ended_valid : (ms : List Member) (wanted : List Need) (taken : List ℕ) → Stands ms wanted taken → IsComplete ms wanted taken → (s : List ℕ) ×
+pub ended_valid : (ms : List Member) (wanted : List Need) (taken : List ℕ) → IsReachedSet ms wanted taken → IsComplete ms wanted taken → (s : List ℕ) ×
     IsValid ms wanted s
 ended_valid ms wanted taken h done = let r = rising_of taken in (r.list, valid_as ms wanted taken r.list h done r.rises r.has r.only)

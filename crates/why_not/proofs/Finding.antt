@@ -9,10 +9,10 @@ use Rattle.recipe_reader.proofs.Preferring.{rise_head, rise_tail}
 use Rattle.recipe_reader.proofs.Searching.{next_same}
 use Rattle.why_not.specs.Reasons.{Reason, Branches, split, refused, loop, none, branch, branch_places, is_split, nodes, branch_nodes, seen, branches_seen}
 use Rattle.why_not.specs.Certificates.{IsOpen, AreAllOf, IsCertified, AreCertified, RestsOn}
-use Rattle.why_not.specs.Ends.{Stands, FitsWith}
+use Rattle.why_not.specs.Ends.{IsReachedSet, FitsWith}
 use Rattle.why_not.specs.Found.{IsPlainSplit, IsBeyond, IsFound, IsPlainAt, IsBeyondAt, IsTried, UsesUp, IsExplained, HasUpTo}
-use Rattle.why_not.specs.Gathers.{Gathers, BranchesUseUp, IsPlainSoFar}
-use Rattle.why_not.specs.Plain.{IsFirstReason, IsFirstLeaf, IsPlain, ArePlain, Explains, HasNoSet}
+use Rattle.why_not.specs.Gathers.{AreBranchesSoFar, BranchesUseUp, IsPlainSoFar}
+use Rattle.why_not.specs.Plain.{IsFirstReason, IsFirstLeaf, IsPlain, ArePlain, IsExplanation, HasNoSet}
 use Rattle.why_not.specs.declared.choosing.Form.{Form}
 use Rattle.why_not.specs.declared.choosing.Form.TheVariants as form
 use Rattle.why_not.specs.declared.explaining.Found.{Found}
@@ -66,8 +66,8 @@ module _ (ms : List Member) (wanted : List Need) (taken : List ℕ) (p : ℕ) wh
     λ e. (let k = h.1 e in record { first = first_split ms wanted taken p (seen part.why) fits k.splits; plain = k.plain; count = k.count }),
   )
 
-  pub stands_with : (n : List ℕ) → Stands ms wanted taken → IsOpen ms wanted taken n → name_of ms p ≡ Some n → FitsWith ms wanted taken p →
-      Stands ms wanted (taken ++ p ∷ [])
+  pub stands_with : (n : List ℕ) → IsReachedSet ms wanted taken → IsOpen ms wanted taken n → name_of ms p ≡ Some n → FitsWith ms wanted taken p →
+      IsReachedSet ms wanted (taken ++ p ∷ [])
   stands_with n s o e fits = stands_push ms wanted taken p n s o e (record {
     wanted_hold = fits.ranges.wanted_hold;
     others_hold = λ q i. (fits.ranges.asked_hold q i, fits.ranges.needs_hold q i);
@@ -189,7 +189,7 @@ module _ (ms : List Member) (wanted : List Need) (taken : List ℕ) where
       let more : branch_nodes bs + l < branch_nodes cs = beyond_branches i l bs cs rest c.1 d.1 h.2 k.2 tail b in
       omega (arith, one, more)
 
-  module _ (n : List ℕ) (i old l : ℕ) (used : List ℕ) (bs : List (ℕ × Why)) (next : IsNext ms wanted taken n) (g : Gathers ms wanted taken n i used bs)
+  module _ (n : List ℕ) (i old l : ℕ) (used : List ℕ) (bs : List (ℕ × Why)) (next : IsNext ms wanted taken n) (g : AreBranchesSoFar ms wanted taken n i used bs)
       (named : name_of ms i ≡ Some n) (far : IsPlainSoFar ms wanted taken old l bs) (b : IsBeyondAt ms wanted taken i l) where
     so_far : AreCertified ms wanted taken (branches_seen bs)
     so_far = resting_holds ms wanted taken used (branches_seen bs) (resting_of ms wanted taken n used bs g.resting) taken g.within (λ x j. j)
@@ -212,7 +212,7 @@ module _ (ms : List Member) (wanted : List Need) (taken : List ℕ) where
 
 module _ (ms : List Member) (wanted : List Need) (taken : List ℕ) (n : List ℕ) (f : Form) (old new : ℕ) (used : Vec ℕ Global)
     (v : Vec (ℕ × Why) Global) where
-  pub split_found : Gathers ms wanted taken n (length ms) used.items v.items → (IsTaken ms taken n → ⊥) → (f ≡ form.Plain → IsNext ms wanted taken n) →
+  pub split_found : AreBranchesSoFar ms wanted taken n (length ms) used.items v.items → (IsTaken ms taken n → ⊥) → (f ≡ form.Plain → IsNext ms wanted taken n) →
       (f ≡ form.Plain → IsPlainSoFar ms wanted taken old new v.items) → IsFound ms wanted f taken old new (Because (record { why = Split n v; used = used }))
   split_found g out next far =
       let e = sym (seen_split n v) in (
@@ -229,16 +229,16 @@ module _ (ms : List Member) (wanted : List Need) where
   explained_start f old new (Because part) h = (rests_certified ms wanted [] part.used.items (seen part.why) h.0, λ e. (h.1 e).plain)
 
   pub explains_plain : (part : Partial) → IsExplained ms wanted form.Plain 1024 (Because part) →
-      HasUpTo 1024 (Because part) → Explains ms wanted (seen part.why)
+      HasUpTo 1024 (Because part) → IsExplanation ms wanted (seen part.why)
   explains_plain part h le = record { certified = h.0; plain = λ s c few. h.1 refl; small = omega (arith, le) }
 
   pub explains_small : (f : Form) (part : Partial) → IsExplained ms wanted form.Plain 1024 TooLarge → IsExplained ms wanted f 65536 (Because part) →
-      HasUpTo 65536 (Because part) → Explains ms wanted (seen part.why)
+      HasUpTo 65536 (Because part) → IsExplanation ms wanted (seen part.why)
   explains_small f part far h le = record {
     certified = h.0;
     plain = λ s c few. (let more = far refl s (root_splits ms wanted s c.0) c.0 c.1 in absurd (omega (arith, more, few)));
     small = le;
   }
 
-  pub no_set : (r : Reason) → Explains ms wanted r → HasNoSet ms wanted
+  pub no_set : (r : Reason) → IsExplanation ms wanted r → HasNoSet ms wanted
   no_set r h = λ s v. certified_out ms wanted [] r h.certified s v (λ x i. absurd (in_nil x i))

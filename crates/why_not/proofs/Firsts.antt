@@ -5,7 +5,7 @@ use Rattle.std.specs.List.{Contains}
 use Rattle.std.proofs.lemmas.List.{take_more, take-append-drop}
 use Rattle.recipe_reader.specs.Members.{Need, Member}
 use Rattle.recipe_reader.specs.Sets.{needs_of}
-use Rattle.recipe_reader.specs.Searches.{Suits}
+use Rattle.recipe_reader.specs.Searches.{IsSuited}
 use Rattle.why_not.specs.Reasons.{Reason, split, refused, loop, is_split, seen}
 use Rattle.why_not.specs.Certificates.{IsAgainst, IsCertified}
 use Rattle.why_not.specs.Ends.{HasNoRange, FitsWith}
@@ -15,7 +15,7 @@ use Rattle.why_not.proofs.Plainly.{in_middle}
 use Rattle.why_not.proofs.Seen.{seen_refused, seen_loop}
 use Rattle.why_not.proofs.Soundness.{loop_out}
 
-pub suits_not_against : (ms : List Member) (needs : List Need) (p : ℕ) → Suits ms needs p → IsAgainst ms needs p → ⊥
+pub suits_not_against : (ms : List Member) (needs : List Need) (p : ℕ) → IsSuited ms needs p → IsAgainst ms needs p → ⊥
 suits_not_against ms needs p h a = a.out (h a.by a.is a.named)
 
 split_at : (xs : List ℕ) (i : ℕ) → i < length xs → xs ≡ take i xs ++ get_or xs i 0 ∷ drop (i + 1) xs
@@ -23,12 +23,12 @@ split_at xs i lt =
     sym (take-append-drop (i + 1) xs) ∙ ap (λ l. l ++ drop (i + 1) xs) (take_more xs i 0 lt) ∙ append_assoc (take i xs) (get_or xs i 0 ∷ []) (drop (i + 1) xs)
 
 module _ (ms : List Member) (taken : List ℕ) (p i : ℕ) (lt : i < length taken) where
-  pub first_against_at : ((q : ℕ) → Contains (take i taken) q → Suits ms (needs_of ms q) p) → IsAgainst ms (needs_of ms (get_or taken i 0)) p →
+  pub first_against_at : ((q : ℕ) → Contains (take i taken) q → IsSuited ms (needs_of ms q) p) → IsAgainst ms (needs_of ms (get_or taken i 0)) p →
       IsFirstAgainst ms taken p (get_or taken i 0)
   first_against_at h a =
       (take i taken, drop (i + 1) taken, split_at taken i lt, a, λ x j. suits_not_against ms (needs_of ms x) p (h x j))
 
-  pub first_unfit_at : ((q : ℕ) → Contains (take i taken) q → Suits ms (needs_of ms p) q) → IsAgainst ms (needs_of ms p) (get_or taken i 0) →
+  pub first_unfit_at : ((q : ℕ) → Contains (take i taken) q → IsSuited ms (needs_of ms p) q) → IsAgainst ms (needs_of ms p) (get_or taken i 0) →
       IsFirstRefusedBy ms taken p (get_or taken i 0)
   first_unfit_at h a =
       (take i taken, drop (i + 1) taken, split_at taken i lt, a, λ x j. suits_not_against ms (needs_of ms p) x (h x j))
@@ -46,17 +46,17 @@ module _ (ms : List Member) (wanted : List Need) (taken : List ℕ) (p : ℕ) wh
   pub first_wanted : IsAgainst ms wanted p → IsFirstLeaf ms wanted taken p (seen (Refused p None))
   first_wanted a = subst (IsFirstLeaf ms wanted taken p) (sym (seen_refused p None)) (record { first = (refl, a); leaf = refl })
 
-  pub first_by : (q : ℕ) → Suits ms wanted p → IsFirstAgainst ms taken p q → IsFirstLeaf ms wanted taken p (seen (Refused p (Some q)))
+  pub first_by : (q : ℕ) → IsSuited ms wanted p → IsFirstAgainst ms taken p q → IsFirstLeaf ms wanted taken p (seen (Refused p (Some q)))
   first_by q suits f = subst (IsFirstLeaf ms wanted taken p) (sym (seen_refused p (Some q)))
       (record { first = (suits_not_against ms wanted p suits, inl (refl, f)); leaf = refl })
 
-  none_against : ((q : ℕ) → Contains taken q → Suits ms (needs_of ms q) p) → NoneAgainst ms taken p
+  none_against : ((q : ℕ) → Contains taken q → IsSuited ms (needs_of ms q) p) → NoneAgainst ms taken p
   none_against h = λ x i. suits_not_against ms (needs_of ms x) p (h x i)
 
-  refuses_none : ((q : ℕ) → Contains taken q → Suits ms (needs_of ms p) q) → RefusesNone ms taken p
+  refuses_none : ((q : ℕ) → Contains taken q → IsSuited ms (needs_of ms p) q) → RefusesNone ms taken p
   refuses_none h = λ x i. suits_not_against ms (needs_of ms p) x (h x i)
 
-  pub first_on : (q : ℕ) → Suits ms wanted p → ((x : ℕ) → Contains taken x → Suits ms (needs_of ms x) p) → IsFirstRefusedBy ms taken p q →
+  pub first_on : (q : ℕ) → IsSuited ms wanted p → ((x : ℕ) → Contains taken x → IsSuited ms (needs_of ms x) p) → IsFirstRefusedBy ms taken p q →
       IsFirstLeaf ms wanted taken p (seen (Refused q (Some p)))
   first_on q suits none f = subst (IsFirstLeaf ms wanted taken p) (sym (seen_refused q (Some p)))
       (record { first = (suits_not_against ms wanted p suits, inr (refl, none_against none, f)); leaf = refl })

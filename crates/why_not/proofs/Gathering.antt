@@ -11,7 +11,7 @@ use Rattle.recipe_reader.proofs.Searching.{within_from_name}
 use Rattle.recipe_reader.proofs.ValidSets.{AreWithin}
 use Rattle.why_not.specs.Reasons.{split, seen, branches_seen}
 use Rattle.why_not.specs.Certificates.{AreAllOf, RestsOn}
-use Rattle.why_not.specs.Gathers.{IsBranch, JoinsOthers, Gathers}
+use Rattle.why_not.specs.Gathers.{IsBranch, JoinsOthers, AreBranchesSoFar}
 use Rattle.why_not.specs.declared.why.Why.{Why}
 use Rattle.why_not.proofs.Resting.{AreResting, rest_none, rest_branch, rests_split, required_more}
 use Rattle.recipe_reader.proofs.OneSet.{cons_rises}
@@ -35,7 +35,7 @@ places_push [] b = refl
 places_push (c ∷ bs) b = ap (λ ps. c.0 ∷ ps) (places_push bs b)
 
 module _ (ms : List Member) (wanted : List Need) (taken : List ℕ) (n : List ℕ) where
-  pub gathers_start : (used : List ℕ) → AreWithin used taken → Contains (required_names ms wanted used) n → Gathers ms wanted taken n 0 used []
+  pub gathers_start : (used : List ℕ) → AreWithin used taken → Contains (required_names ms wanted used) n → AreBranchesSoFar ms wanted taken n 0 used []
   gathers_start used within required = record {
     within = within;
     required = required;
@@ -45,8 +45,8 @@ module _ (ms : List Member) (wanted : List Need) (taken : List ℕ) (n : List �
   }
 
   -- no candidate of the name
-  pub gathers_skip : (i : ℕ) (used : List ℕ) (bs : List (ℕ × Why)) → Gathers ms wanted taken n i used bs → (name_of ms i ≡ Some n → ⊥) →
-      Gathers ms wanted taken n (i + 1) used bs
+  pub gathers_skip : (i : ℕ) (used : List ℕ) (bs : List (ℕ × Why)) → AreBranchesSoFar ms wanted taken n i used bs → (name_of ms i ≡ Some n → ⊥) →
+      AreBranchesSoFar ms wanted taken n (i + 1) used bs
   gathers_skip i used bs g out = record {
     within = g.within;
     required = g.required;
@@ -66,8 +66,8 @@ module _ (ms : List Member) (wanted : List Need) (taken : List ℕ) (n : List �
   branch_more used more b a h = record { own = h.own; rests = h.rests; others = λ x i. elim (h.others x i) [ inl e ↦ inl e | inr j ↦ inr (a x j) ] }
 
   -- a candidate of the name, and what its certificate rests on
-  pub gathers_push : (i : ℕ) (used more own : List ℕ) (bs : List (ℕ × Why)) (why : Why) → Gathers ms wanted taken n i used bs → name_of ms i ≡ Some n →
-      RestsOn ms wanted (taken ++ i ∷ []) own (seen why) → JoinsOthers i own used more → Gathers ms wanted taken n (i + 1) more (bs ++ (i, why) ∷ [])
+  pub gathers_push : (i : ℕ) (used more own : List ℕ) (bs : List (ℕ × Why)) (why : Why) → AreBranchesSoFar ms wanted taken n i used bs → name_of ms i ≡ Some n →
+      RestsOn ms wanted (taken ++ i ∷ []) own (seen why) → JoinsOthers i own used more → AreBranchesSoFar ms wanted taken n (i + 1) more (bs ++ (i, why) ∷ [])
   gathers_push i used more own bs why g named rests joins = record {
     within = λ x k. elim (joins.only x k) [
       | inl j ↦ g.within x j
@@ -98,7 +98,7 @@ module _ (ms : List Member) (wanted : List Need) (taken : List ℕ) (n : List �
   resting_of used (b ∷ bs) h = let one = h b (in_here b bs) in rest_branch one.own one.rests one.others (resting_of used bs (λ c i. h c (in_there b bs c i)))
 
   -- all candidates were tried
-  pub gathers_end : (used : List ℕ) (bs : List (ℕ × Why)) → Gathers ms wanted taken n (length ms) used bs → (IsTaken ms taken n → ⊥) →
+  pub gathers_end : (used : List ℕ) (bs : List (ℕ × Why)) → AreBranchesSoFar ms wanted taken n (length ms) used bs → (IsTaken ms taken n → ⊥) →
       RestsOn ms wanted taken used (split n (branches_seen bs))
   gathers_end used bs g out = rests_split ms wanted taken used n (branches_seen bs) g.within g.required out
       (subst (AreAllOf ms n) (sym (places_are bs)) (record {

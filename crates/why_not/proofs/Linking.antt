@@ -3,17 +3,17 @@ use Rattle.std.proofs.Common.{◌≡◌, ℕ, ◌+◌, ◌<◌, List, [], ◌∷
 use Rattle.std.specs.Prelude.{slice_get}
 use Rattle.std.specs.List.{Contains}
 use Rattle.std.proofs.lemmas.List.Elements.{Contains-append_left, Contains-push, Contains-push_cases}
-use Rattle.nuc_base.specs.Leads.{Leads}
+use Rattle.nuc_base.specs.Leads.{HasPath}
 use Rattle.nuc_base.proofs.Leading.{leads_more}
 use Rattle.nuc_base.proofs.Lists.{in_nil, in_cons, all_from_in}
 use Rattle.dep_order.specs.declared.Need.{Need as Edge}
 use Rattle.dep_order.specs.declared.Edges.{Edges}
 use Rattle.dep_order.specs.Orders as orders
 use Rattle.recipe_reader.specs.Members.{Need, Member}
-use Rattle.recipe_reader.specs.Sets.{name_in, needs_in, needs_of, Needs}
+use Rattle.recipe_reader.specs.Sets.{name_in, needs_in, needs_of, HasDependency}
 use Rattle.recipe_reader.proofs.Searching.{within_from_name, acyclic_push}
 use Rattle.why_not.specs.Certificates.{DependsOn, AreChained, IsLoop}
-use Rattle.why_not.specs.Edges.{Joins, AreEdges, LeadsFrom, AddsEdges}
+use Rattle.why_not.specs.Edges.{HasEdge, AreEdges, LeadsFrom, AddsEdges}
 use Rattle.why_not.proofs.Each.{this, before, cases}
 
 -- ---- the edges so far
@@ -21,11 +21,11 @@ use Rattle.why_not.proofs.Each.{this, before, cases}
 pub adds_none : (ms : List Member) (place : ℕ) (old : List Edge) → AddsEdges ms place [] old old
 adds_none ms place old = record { kept = λ a b j. j; has = λ b i d. absurd (in_nil b i); only = λ a b j. inl j }
 
-joins_before : (old : List Edge) (e : Edge) (a b : ℕ) → Joins old a b → Joins (old ++ e ∷ []) a b
+joins_before : (old : List Edge) (e : Edge) (a b : ℕ) → HasEdge old a b → HasEdge (old ++ e ∷ []) a b
 joins_before old e a b j = record { by = j.by; is = Contains-append_left old (e ∷ []) j.by j.is; from = j.from; to = j.to }
 
 module _ (ms : List Member) (place : ℕ) (tos : List ℕ) (i : ℕ) (lt : i < length tos) (old mid : List Edge) (h : AddsEdges ms place (take i tos) old mid) where
-  only_more : (a b : ℕ) → Joins mid a b → Joins old a b ⊎ LeadsFrom ms place (take (i + 1) tos) a b
+  only_more : (a b : ℕ) → HasEdge mid a b → HasEdge old a b ⊎ LeadsFrom ms place (take (i + 1) tos) a b
   only_more a b j = elim (h.only a b j) [
     | inl o ↦ inl o
     | inr f ↦ inr (record { from = f.from; to = before tos i lt b f.to; depends = f.depends })
@@ -72,7 +72,7 @@ pub edges_more : (ms : List Member) (froms tos : List ℕ) (i : ℕ) → i < len
 edges_more ms froms tos i lt old new h more = record {
   has = λ a b k l d. elim (cases froms i lt a k) [
     | inl j ↦ more.kept a b (h.has a b j l d)
-    | inr same ↦ subst (λ z. Joins new z b) same (more.has b l (subst (λ z. DependsOn ms z b) (sym same) d))
+    | inr same ↦ subst (λ z. HasEdge new z b) same (more.has b l (subst (λ z. DependsOn ms z b) (sym same) d))
   ];
   from = λ a b j. elim (more.only a b j) [
     | inl o ↦ before froms i lt a (h.from a b o)
@@ -92,10 +92,10 @@ within_from_need : (ms : List Member) (p : ℕ) (d : Need) → Contains (needs_o
 within_from_need ms p d i = let n = needed_at ms p d (slice_get ms p) refl i in within_from_name ms p n.0 n.1
 
 module _ (ms : List Member) (places : List ℕ) (edges : Edges) (are : AreEdges ms places places edges.needs) where
-  edge_of : (a b : ℕ) → orders.Needs edges a b → Joins edges.needs a b
+  edge_of : (a b : ℕ) → orders.HasNeed edges a b → HasEdge edges.needs a b
   edge_of a b e = record { by = e.by; is = e.is; from = e.from; to = e.to }
 
-  need_edge : (a b : ℕ) → Needs ms places a b → orders.Needs edges a b
+  need_edge : (a b : ℕ) → HasDependency ms places a b → orders.HasNeed edges a b
   need_edge a b n =
       let j = are.has a b n.from n.to (record { by = n.by; is = n.is; named = n.named }) in
       record { by = j.by; is = j.is; from = j.from; to = j.to }
@@ -107,7 +107,7 @@ module _ (ms : List Member) (places : List ℕ) (edges : Edges) (are : AreEdges 
         subst (λ m. x.to < m) (sym e) (within_from_name ms x.to d.by.name d.named),
       )))
 
-  pub edges_acyclic : orders.IsAcyclic edges → (x : ℕ) → Leads (Needs ms places) x x → ⊥
+  pub edges_acyclic : orders.IsAcyclic edges → (x : ℕ) → HasPath (HasDependency ms places) x x → ⊥
   edges_acyclic free x r = free x (leads_more need_edge r)
 
   chained : (p : ℕ) (ps : List ℕ) (last : ℕ) → orders.AreLinked edges (p ∷ ps) last → AreChained ms p ps last
@@ -127,5 +127,5 @@ module _ (ms : List Member) (places : List ℕ) (edges : Edges) (are : AreEdges 
 
 -- a place that depends on none of them closes no loop
 pub nowhere_acyclic : (ms : List Member) (taken : List ℕ) (p : ℕ) → ((x : ℕ) → Contains (taken ++ p ∷ []) x → DependsOn ms p x → ⊥) →
-    ((x : ℕ) → Leads (Needs ms taken) x x → ⊥) → (x : ℕ) → Leads (Needs ms (taken ++ p ∷ [])) x x → ⊥
+    ((x : ℕ) → HasPath (HasDependency ms taken) x x → ⊥) → (x : ℕ) → HasPath (HasDependency ms (taken ++ p ∷ [])) x x → ⊥
 nowhere_acyclic ms taken p out h = acyclic_push ms taken p (λ q n. out q n.to (record { by = n.by; is = n.is; named = n.named })) h

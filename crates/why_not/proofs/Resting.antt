@@ -9,7 +9,7 @@ use Rattle.recipe_reader.proofs.NameOrder.{same_or_not}
 use Rattle.recipe_reader.proofs.Required.{required_from, required_by_wanted, required_by_need}
 use Rattle.recipe_reader.proofs.ValidSets.{AreWithin}
 use Rattle.why_not.specs.Reasons.{Reason, Branches, split, refused, loop, none, branch, branch_places}
-use Rattle.why_not.specs.Certificates.{AreAllOf, IsRefused, IsLoop, IsCertified, AreCertified, Rests, AnyRests, RestsOn}
+use Rattle.why_not.specs.Certificates.{AreAllOf, IsRefused, IsLoop, IsCertified, AreCertified, IsGroundOf, IsGroundOfAny, RestsOn}
 
 listed_or_not : (names : List (List ℕ)) (n : List ℕ) → Contains names n ⊎ (Contains names n → ⊥)
 listed_or_not [] n = inr (λ i. in_nil n i)
@@ -44,13 +44,13 @@ untaken_fewer : (ms : List Member) (fewer more : List ℕ) (n : List ℕ) → Ar
 untaken_fewer ms fewer more n h out t = out (t.0, h t.0 t.1, t.2)
 
 refused_less : (ms : List Member) (wanted : List Need) (more fewer : List ℕ) (p q : ℕ) (by : Option ℕ) → IsWith more p fewer → Contains more q →
-    IsRefused ms wanted more q by → (Rests ms wanted fewer p (refused q by) → ⊥) → IsCertified ms wanted fewer (refused q by)
+    IsRefused ms wanted more q by → (IsGroundOf ms wanted fewer p (refused q by) → ⊥) → IsCertified ms wanted fewer (refused q by)
 refused_less ms wanted more fewer p q None h i r out = (stays more fewer p q h i out, r)
 refused_less ms wanted more fewer p q (Some by) h i r out = (stays more fewer p q h i (λ e. out (inl e)), (stays more fewer p by h r.0 (λ e. out (inr e)), r.1))
 
 mutual
   pub certified_less : (ms : List Member) (wanted : List Need) (more fewer : List ℕ) (p : ℕ) (r : Reason) → AreWithin fewer more → IsWith more p fewer →
-      IsCertified ms wanted more r → (Rests ms wanted fewer p r → ⊥) → IsCertified ms wanted fewer r
+      IsCertified ms wanted more r → (IsGroundOf ms wanted fewer p r → ⊥) → IsCertified ms wanted fewer r
   certified_less ms wanted more fewer p (split n bs) a h c out =
       let open' = c.0 in
       let required : Contains (required_names ms wanted fewer) n = elim (listed_or_not (required_names ms wanted fewer) n) [
@@ -67,7 +67,7 @@ mutual
       (λ x i. stays more fewer p x h (c.0 x i) (λ e. out (subst (Contains ps) (sym e) i)), c.1)
 
   branches_less : (ms : List Member) (wanted : List Need) (more fewer : List ℕ) (p : ℕ) (bs : Branches) → AreWithin fewer more → IsWith more p fewer →
-      AreCertified ms wanted more bs → (AnyRests ms wanted fewer p bs → ⊥) → AreCertified ms wanted fewer bs
+      AreCertified ms wanted more bs → (IsGroundOfAny ms wanted fewer p bs → ⊥) → AreCertified ms wanted fewer bs
   branches_less ms wanted more fewer p none a h c out = tt
   branches_less ms wanted more fewer p (branch q r bs) a h c out = (
     certified_less ms wanted (more ++ q ∷ []) (fewer ++ q ∷ []) p r (push_within fewer more q a) (push_with more fewer p q h) c.0 (λ x. out (inl x)),
@@ -75,7 +75,7 @@ mutual
   )
 
 pub left_out : (ms : List Member) (wanted : List Need) (taken : List ℕ) (p : ℕ) (r : Reason) → IsCertified ms wanted (taken ++ p ∷ []) r →
-    (Rests ms wanted taken p r → ⊥) → IsCertified ms wanted taken r
+    (IsGroundOf ms wanted taken p r → ⊥) → IsCertified ms wanted taken r
 left_out ms wanted taken p r c out = certified_less ms wanted (taken ++ p ∷ []) taken p r (λ x i. Contains-append_left taken (p ∷ []) x i)
     (λ x i. elim (Contains-push_cases taken p x i) [ inl j ↦ inr j | inr e ↦ inl e ]) c out
 

@@ -1,10 +1,10 @@
 -- A certificate leaves no valid set.
 use Rattle.std.proofs.Common.{ℕ, List, [], ◌∷◌, ◌++◌, Option, Some, None, sym, subst, inl, inr}
 use Rattle.std.specs.List.{Contains}
-use Rattle.nuc_base.specs.Leads.{Leads, direct, through}
+use Rattle.nuc_base.specs.Leads.{HasPath, direct, through}
 use Rattle.nuc_base.proofs.Lists.{in_nil, in_cons, in_here, in_there}
 use Rattle.recipe_reader.specs.Members.{Need, Member}
-use Rattle.recipe_reader.specs.Sets.{Needs, IsValid}
+use Rattle.recipe_reader.specs.Sets.{HasDependency, IsValid}
 use Rattle.recipe_reader.proofs.ValidSets.{AreWithin, member_for, consistent_of, within_push}
 use Rattle.why_not.specs.Reasons.{Reason, Branches, split, refused, loop, none, branch, branch_places}
 use Rattle.why_not.specs.Certificates.{IsRefused, DependsOn, AreChained, IsLoop, IsCertified, AreCertified}
@@ -17,17 +17,17 @@ refused_out ms wanted taken s v within p (Some q) i r =
     let a = r.1 in
     a.out (c.needs_hold q (within q r.0) a.by a.is p (within p i) a.named)
 
-needs_from : (ms : List Member) (s : List ℕ) (p q : ℕ) → Contains s p → Contains s q → DependsOn ms p q → Needs ms s p q
+needs_from : (ms : List Member) (s : List ℕ) (p q : ℕ) → Contains s p → Contains s q → DependsOn ms p q → HasDependency ms s p q
 needs_from ms s p q i j d = record { from = i; to = j; by = d.by; is = d.is; named = d.named }
 
 chain_leads : (ms : List Member) (s : List ℕ) (p : ℕ) (qs : List ℕ) (first : ℕ) → AreWithin (p ∷ qs) s → Contains s first → AreChained ms p qs first →
-    Leads (Needs ms s) p first
+    HasPath (HasDependency ms s) p first
 chain_leads ms s p [] first within i h = direct (needs_from ms s p first (within p (in_here p [])) i h)
 chain_leads ms s p (q ∷ qs) first within i h =
     through (needs_from ms s p q (within p (in_here p (q ∷ qs))) (within q (in_there p (q ∷ qs) q (in_here q qs))) h.0)
     (chain_leads ms s q qs first (λ x j. within x (in_there p (q ∷ qs) x j)) i h.1)
 
-pub loop_out : (ms : List Member) (s ps : List ℕ) → ((p : ℕ) → Leads (Needs ms s) p p → ⊥) → AreWithin ps s → IsLoop ms ps → ⊥
+pub loop_out : (ms : List Member) (s ps : List ℕ) → ((p : ℕ) → HasPath (HasDependency ms s) p p → ⊥) → AreWithin ps s → IsLoop ms ps → ⊥
 loop_out ms s [] acyclic within h = h
 loop_out ms s (p ∷ ps) acyclic within h = acyclic p (chain_leads ms s p ps p within (within p (in_here p ps)) h)
 

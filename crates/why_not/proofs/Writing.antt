@@ -28,8 +28,8 @@ blanks_are (suc n) =
     let e : 2 * suc n ≡ suc (suc (2 * n)) = omega arith in
     ap (λ k. replicate k 32) e ∙ ap (λ l. 32 ∷ 32 ∷ l) (blanks_are n)
 
-pub blanks_front : (m n : ℕ) → 2 * n ≤ m → take (2 * n) (replicate m 32) ≡ indent n
-blanks_front m n le = take-replicate (2 * n) m 32 le ∙ blanks_are n
+pub blanks_prefix : (m n : ℕ) → 2 * n ≤ m → take (2 * n) (replicate m 32) ≡ indent n
+blanks_prefix m n le = take-replicate (2 * n) m 32 le ∙ blanks_are n
 
 -- the blanks so far, and so many more
 pub indent_more : (level left count : ℕ) → left ≤ level → count ≤ left → indent (level - left) ++ indent count ≡ indent (level - (left - count))
@@ -53,10 +53,10 @@ split_drop xs i x d below is =
     drop-cons xs i d below ∙ ap (λ y. y ∷ drop (suc i) xs) (sym is) ∙ ap (λ k. x ∷ drop k xs) e
 
 -- the text of one more element
-pub flat_at : {A : Type 0} (f : A → List ℕ) (xs : List A) (i : ℕ) (x d : A) (all front : List ℕ) → i < length xs → x ≡ get_or xs i d →
-    all ≡ front ++ flat_map f (drop i xs) → all ≡ (front ++ f x) ++ flat_map f (drop (i + 1) xs)
-flat_at f xs i x d all front below is so_far = so_far ∙ ap (λ l. front ++ flat_map f l) (split_drop xs i x d below is)
-    ∙ sym (append_assoc front (f x) (flat_map f (drop (i + 1) xs)))
+pub flat_at : {A : Type 0} (f : A → List ℕ) (xs : List A) (i : ℕ) (x d : A) (all prefix : List ℕ) → i < length xs → x ≡ get_or xs i d →
+    all ≡ prefix ++ flat_map f (drop i xs) → all ≡ (prefix ++ f x) ++ flat_map f (drop (i + 1) xs)
+flat_at f xs i x d all prefix below is so_far = so_far ∙ ap (λ l. prefix ++ flat_map f l) (split_drop xs i x d below is)
+    ∙ sym (append_assoc prefix (f x) (flat_map f (drop (i + 1) xs)))
 
 -- ---- a split and its branches
 
@@ -68,17 +68,17 @@ module _ (ms : List Member) (level : ℕ) where
       ap (λ r. joined_lines (reason_lines ms level r)) (ap seen is ∙ seen_split n v)
       ∙ ap (λ k. split_line level n k ++ joined_lines (branch_lines ms (level + 1) (branches_seen v.items))) counted
 
-  pub branch_text : (bs : List (ℕ × Why)) (i : ℕ) (b : ℕ × Why) (all front : List ℕ) → i < length bs → b ≡ get_or bs i b →
-      all ≡ front ++ joined_lines (branch_lines ms level (branches_seen (drop i bs))) →
-      all ≡ ((front ++ try_line ms level b.0) ++ joined_lines (reason_lines ms (level + 1) (seen b.1)))
+  pub branch_text : (bs : List (ℕ × Why)) (i : ℕ) (b : ℕ × Why) (all prefix : List ℕ) → i < length bs → b ≡ get_or bs i b →
+      all ≡ prefix ++ joined_lines (branch_lines ms level (branches_seen (drop i bs))) →
+      all ≡ ((prefix ++ try_line ms level b.0) ++ joined_lines (reason_lines ms (level + 1) (seen b.1)))
       ++ joined_lines (branch_lines ms level (branches_seen (drop (i + 1) bs)))
-  branch_text bs i b all front below is so_far =
+  branch_text bs i b all prefix below is so_far =
       let one = try_line ms level b.0 in
       let own = reason_lines ms (level + 1) (seen b.1) in
       let others = branch_lines ms level (branches_seen (drop (i + 1) bs)) in
-      so_far ∙ ap (λ l. front ++ joined_lines (branch_lines ms level (branches_seen l))) (split_drop bs i b b below is)
-      ∙ ap (λ l. front ++ (one ++ l)) (flat_map-append (λ (l : List ℕ). l) own others)
-      ∙ five front one (joined_lines own) (joined_lines others)
+      so_far ∙ ap (λ l. prefix ++ joined_lines (branch_lines ms level (branches_seen l))) (split_drop bs i b b below is)
+      ∙ ap (λ l. prefix ++ (one ++ l)) (flat_map-append (λ (l : List ℕ). l) own others)
+      ∙ five prefix one (joined_lines own) (joined_lines others)
     where
       five : (a b c d : List ℕ) → a ++ (b ++ (c ++ d)) ≡ ((a ++ b) ++ c) ++ d
       five a b c d = simp append_assoc

@@ -22,7 +22,8 @@ pub record JoinsOthers (place : ℕ) (own old new : List ℕ) : Type 0 where
   pub only : (x : ℕ) → Contains new x → Contains old x ⊎ (Contains own x × (place ≢ x))
 
 -- the branches are those of the candidates of the name before i, and they and the name rest on used
-pub record Gathers (ms : List Member) (wanted : List Need) (taken : List ℕ) (n : List ℕ) (i : ℕ) (used : List ℕ) (branches : List (ℕ × Why)) : Type 0 where
+pub record AreBranchesSoFar (ms : List Member) (wanted : List Need) (taken : List ℕ) (n : List ℕ) (i : ℕ) (used : List ℕ)
+    (branches : List (ℕ × Why)) : Type 0 where
   pub within : (x : ℕ) → Contains used x → Contains taken x
   pub required : Contains (required_names ms wanted used) n
   pub resting : (b : ℕ × Why) → Contains branches b → IsBranch ms wanted taken used b

@@ -3,7 +3,7 @@ use Rattle.std.specs.Prelude.{ℕ, List, [], ◌∷◌, ◌++◌}
 use Rattle.std.specs.List.{Contains}
 use Rattle.recipe_reader.specs.Members.{Need, Member}
 use Rattle.why_not.specs.Reasons.{Reason}
-use Rattle.why_not.specs.Certificates.{IsCertified, Rests, RestsOn}
+use Rattle.why_not.specs.Certificates.{IsCertified, IsGroundOf, RestsOn}
 use Rattle.why_not.specs.Plain.{HasNoSet}
 
 -- a certificate for no taken place leaves no valid set
@@ -13,7 +13,7 @@ LeavesNone = (ms : List Member) (wanted : List Need) (r : Reason) → IsCertifie
 -- where a certificate does not rest on the last place it is one without that place
 abbrev pub MayLeaveOut : Type 0
 MayLeaveOut = (ms : List Member) (wanted : List Need) (taken : List ℕ) (p : ℕ) (r : Reason) → IsCertified ms wanted (taken ++ p ∷ []) r →
-    (Rests ms wanted taken p r → ⊥) → IsCertified ms wanted taken r
+    (IsGroundOf ms wanted taken p r → ⊥) → IsCertified ms wanted taken r
 
 -- and it rests on no more than the places of used where it does not rest on a place outside of them: stated the other way, a
 -- certificate that rests on used places is one for any places between used and taken

@@ -59,7 +59,7 @@ abbrev pub IsPlainCertificate : List Member → List Need → Reason → Type 0
 IsPlainCertificate ms wanted r = IsCertified ms wanted [] r × IsPlain ms wanted [] r
 
 -- certified, plain where a plain one has at most 1,024 nodes, and never of more than 65,536
-pub record Explains (ms : List Member) (wanted : List Need) (r : Reason) : Type 0 where
+pub record IsExplanation (ms : List Member) (wanted : List Need) (r : Reason) : Type 0 where
   pub certified : IsCertified ms wanted [] r
   pub plain : (s : Reason) → IsPlainCertificate ms wanted s → nodes s ≤ 1024 → IsPlain ms wanted [] r
   pub small : nodes r ≤ 65536

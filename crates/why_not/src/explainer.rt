@@ -4,7 +4,7 @@ ghost use Rattle.std.specs.Prelude.{◌<◌, ◌^◌, ℕ, List, length, IfOk, I
 ghost use Rattle.recipe_reader.specs.Members.{members};
 ghost use Rattle.recipe_reader.specs.Sets.{asked, IsValid};
 ghost use Rattle.why_not.specs.Reasons.{seen};
-ghost use Rattle.why_not.specs.Plain.{Explains, HasNoSet};
+ghost use Rattle.why_not.specs.Plain.{IsExplanation, HasNoSet};
 ghost use Rattle.why_not.specs.Found.{IsExplained, HasUpTo};
 
 use crate::choosing::Form;
@@ -47,7 +47,7 @@ fn by_forms(
     requires count { length candidates.now < 2 ^ 32 }
     ensures found { IfOk result (λ found. MatchOption found
         ((s : List ℕ) × IsValid (members candidates.now) (asked wanted.now) s)
-        (λ why. Explains (members candidates.now) (asked wanted.now) (seen why))) }
+        (λ why. IsExplanation (members candidates.now) (asked wanted.now) (seen why))) }
     ensures none { IfOk result (λ found. IfSome found (λ _. HasNoSet (members candidates.now) (asked wanted.now))) }
 {
     match from_none(alloc, candidates, wanted, Form::Plain, PLAIN_NODES)? {
@@ -75,7 +75,7 @@ pub fn explain(
 ) -> Result<Option<Why>, NoMemory>
     ensures found { IfOk result (λ found. MatchOption found
         ((s : List ℕ) × IsValid (members candidates.now) (asked wanted.now) s)
-        (λ why. Explains (members candidates.now) (asked wanted.now) (seen why))) }
+        (λ why. IsExplanation (members candidates.now) (asked wanted.now) (seen why))) }
     ensures none { IfOk result (λ found. IfSome found (λ _. HasNoSet (members candidates.now) (asked wanted.now))) }
 {
     let found = by_forms(alloc, candidates.list().as_slice(), wanted.as_slice())?;

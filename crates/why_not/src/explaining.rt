@@ -5,7 +5,7 @@ ghost use Rattle.std.specs.List.{Contains};
 ghost use Rattle.recipe_reader.specs.Members.{members};
 ghost use Rattle.recipe_reader.specs.Sets.{asked, name_of, required_names};
 ghost use Rattle.why_not.specs.Certificates.{IsOpen};
-ghost use Rattle.why_not.specs.Ends.{Stands};
+ghost use Rattle.why_not.specs.Ends.{IsReachedSet};
 ghost use Rattle.why_not.specs.Gathers.{JoinsOthers};
 ghost use Rattle.why_not.specs.Found.{IsFound, IsTried, UsesUp};
 
@@ -94,7 +94,7 @@ fn tried(
     left: &mut u32,
 ) -> Result<Found, NoMemory>
     requires count { length candidates.now < 2 ^ 32 }
-    requires stands { Stands (members candidates.now) (asked wanted.now) taken.old.items }
+    requires stands { IsReachedSet (members candidates.now) (asked wanted.now) taken.old.items }
     requires next { (n : List ℕ) × IsOpen (members candidates.now) (asked wanted.now) taken.old.items n × (name_of (members candidates.now) place ≡ Some n) }
     ensures found { IfOk result (IsTried (members candidates.now) (asked wanted.now) form taken.old.items place left.old left.new) }
     ensures small { IfOk result (UsesUp left.old left.new) }
@@ -125,7 +125,7 @@ pub(crate) fn explained(
     left: &mut u32,
 ) -> Result<Found, NoMemory>
     requires count { length candidates.now < 2 ^ 32 }
-    requires stands { Stands (members candidates.now) (asked wanted.now) taken.old.items }
+    requires stands { IsReachedSet (members candidates.now) (asked wanted.now) taken.old.items }
     ensures found { IfOk result (IsFound (members candidates.now) (asked wanted.now) form taken.old.items left.old left.new) }
     ensures small { IfOk result (UsesUp left.old left.new) }
     ensures same { OnOk result (taken.new.items ≡ taken.old.items) }

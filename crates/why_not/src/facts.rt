@@ -4,7 +4,7 @@ ghost use Rattle.std.specs.Prelude.{◌≡◌, ◌↔◌, ℕ, Some, None, IsTru
 ghost use Rattle.std.specs.List.{Contains};
 ghost use Rattle.recipe_reader.specs.Members.{members, need};
 ghost use Rattle.recipe_reader.specs.Sets.{asked, name_of, needs_of, IsMetBy};
-ghost use Rattle.recipe_reader.specs.Searches.{Suits};
+ghost use Rattle.recipe_reader.specs.Searches.{IsSuited};
 ghost use Rattle.why_not.specs.Certificates.{IsAgainst, AsksFor, DependsOn};
 
 use npm_ranges::Range;
@@ -58,7 +58,7 @@ fn refuses(candidates: &[Candidate], name: &Name, range: &Range, place: u32) -> 
 pub(crate) fn wanted_against(candidates: &[Candidate], wanted: &[Wanted], place: u32) -> bool
     ensures yes { IsTrue result → IsAgainst (members candidates.now) (asked wanted.now) place }
     ensures no { IsFalse result → IsAgainst (members candidates.now) (asked wanted.now) place → ⊥ }
-    ensures fits { IsFalse result → Suits (members candidates.now) (asked wanted.now) place }
+    ensures fits { IsFalse result → IsSuited (members candidates.now) (asked wanted.now) place }
 {
     for one in wanted {
         if refuses(candidates, &one.name, &one.range, place) {
@@ -82,7 +82,7 @@ pub(crate) fn needs_at(candidates: &[Candidate], place: u32) -> &[Dependency]
 pub(crate) fn needs_against(candidates: &[Candidate], needs: &[Dependency], place: u32) -> bool
     ensures yes { IsTrue result → IsAgainst (members candidates.now) (map need needs.now) place }
     ensures no { IsFalse result → IsAgainst (members candidates.now) (map need needs.now) place → ⊥ }
-    ensures fits { IsFalse result → Suits (members candidates.now) (map need needs.now) place }
+    ensures fits { IsFalse result → IsSuited (members candidates.now) (map need needs.now) place }
 {
     for one in needs {
         if refuses(candidates, &one.name, &one.range, place) {

@@ -3,7 +3,7 @@
 ghost use Rattle.std.specs.Prelude.{◌≡◌, ◌∷◌, ◌+◌, ◌*◌, ◌<◌, ◌≤◌, ◌^◌, OnOk};
 ghost use Rattle.std.specs.List.{flat_map};
 ghost use Rattle.nuc_base.specs.Faults.{HasCause};
-ghost use Rattle.edges.specs.Pieces.{Writes, joined};
+ghost use Rattle.edges.specs.Pieces.{WriteOutcome, joined};
 ghost use Rattle.recipe_reader.specs.Members.{members};
 ghost use Rattle.why_not.specs.Reasons.{nodes, branch_nodes, seen, branches_seen};
 ghost use Rattle.why_not.specs.Texts.{indent, name_text, version_text, line, split_line, try_line, refused_line, loop_line};
@@ -20,7 +20,7 @@ const LEVELS: usize = 32;
 
 /// Two blanks for each level.
 fn write_indent<K: Sink>(sink: &mut K, level: usize) -> Result<(), EdgeFault>
-    ensures bytes { Writes (K.held sink.old) (K.held sink.new) (indent level) result }
+    ensures bytes { WriteOutcome (K.held sink.old) (K.held sink.new) (indent level) result }
     ensures cause { HasCause (K.faults sink.old) (K.faults sink.new) result }
     ensures quiet { OnOk result (K.faults sink.new ≡ K.faults sink.old) }
 {
@@ -36,7 +36,7 @@ fn write_indent<K: Sink>(sink: &mut K, level: usize) -> Result<(), EdgeFault>
 
 /// A line at that level.
 fn write_line<K: Sink>(sink: &mut K, level: usize, pieces: &[&str]) -> Result<(), EdgeFault>
-    ensures bytes { Writes (K.held sink.old) (K.held sink.new) (line level (joined pieces.now)) result }
+    ensures bytes { WriteOutcome (K.held sink.old) (K.held sink.new) (line level (joined pieces.now)) result }
     ensures cause { HasCause (K.faults sink.old) (K.faults sink.new) result }
     ensures quiet { OnOk result (K.faults sink.new ≡ K.faults sink.old) }
 {
@@ -71,7 +71,7 @@ fn write_split<K: Sink>(
     name: &Name,
     count: usize,
 ) -> Result<(), EdgeFault>
-    ensures bytes { Writes (K.held sink.old) (K.held sink.new) (split_line level name.now count) result }
+    ensures bytes { WriteOutcome (K.held sink.old) (K.held sink.new) (split_line level name.now count) result }
     ensures cause { HasCause (K.faults sink.old) (K.faults sink.new) result }
     ensures quiet { OnOk result (K.faults sink.new ≡ K.faults sink.old) }
 {
@@ -89,7 +89,7 @@ fn write_try<K: Sink>(
     level: usize,
     place: u32,
 ) -> Result<(), EdgeFault>
-    ensures bytes { Writes (K.held sink.old) (K.held sink.new) (try_line (members candidates.now) level place) result }
+    ensures bytes { WriteOutcome (K.held sink.old) (K.held sink.new) (try_line (members candidates.now) level place) result }
     ensures cause { HasCause (K.faults sink.old) (K.faults sink.new) result }
     ensures quiet { OnOk result (K.faults sink.new ≡ K.faults sink.old) }
 {
@@ -105,7 +105,7 @@ fn write_refused<K: Sink>(
     place: u32,
     by: Option<u32>,
 ) -> Result<(), EdgeFault>
-    ensures bytes { Writes (K.held sink.old) (K.held sink.new) (refused_line (members candidates.now) level place by) result }
+    ensures bytes { WriteOutcome (K.held sink.old) (K.held sink.new) (refused_line (members candidates.now) level place by) result }
     ensures cause { HasCause (K.faults sink.old) (K.faults sink.new) result }
     ensures quiet { OnOk result (K.faults sink.new ≡ K.faults sink.old) }
 {
@@ -130,7 +130,7 @@ fn write_names<K: Sink>(
     candidates: &[Candidate],
     places: &[u32],
 ) -> Result<(), EdgeFault>
-    ensures bytes { Writes (K.held sink.old) (K.held sink.new) (flat_map (λ p. 32 ∷ name_text (members candidates.now) p) places.now) result }
+    ensures bytes { WriteOutcome (K.held sink.old) (K.held sink.new) (flat_map (λ p. 32 ∷ name_text (members candidates.now) p) places.now) result }
     ensures cause { HasCause (K.faults sink.old) (K.faults sink.new) result }
     ensures quiet { OnOk result (K.faults sink.new ≡ K.faults sink.old) }
 {
@@ -146,7 +146,7 @@ fn write_loop<K: Sink>(
     level: usize,
     places: &[u32],
 ) -> Result<(), EdgeFault>
-    ensures bytes { Writes (K.held sink.old) (K.held sink.new) (loop_line (members candidates.now) level places.now) result }
+    ensures bytes { WriteOutcome (K.held sink.old) (K.held sink.new) (loop_line (members candidates.now) level places.now) result }
     ensures cause { HasCause (K.faults sink.old) (K.faults sink.new) result }
     ensures quiet { OnOk result (K.faults sink.new ≡ K.faults sink.old) }
 {
@@ -165,7 +165,7 @@ fn write_reason<K: Sink>(
     why: &Why,
 ) -> Result<(), EdgeFault>
     requires small { level + 2 * nodes (seen why.now) < 2 ^ 64 }
-    ensures bytes { Writes (K.held sink.old) (K.held sink.new) (joined_lines (reason_lines (members candidates.now) level (seen why.now))) result }
+    ensures bytes { WriteOutcome (K.held sink.old) (K.held sink.new) (joined_lines (reason_lines (members candidates.now) level (seen why.now))) result }
     ensures cause { HasCause (K.faults sink.old) (K.faults sink.new) result }
     ensures quiet { OnOk result (K.faults sink.new ≡ K.faults sink.old) }
 {
@@ -188,7 +188,8 @@ fn write_branches<K: Sink>(
     branches: &Vec<(u32, Why)>,
 ) -> Result<(), EdgeFault>
     requires small { level + 1 + 2 * branch_nodes (branches_seen branches.now.items) < 2 ^ 64 }
-    ensures bytes { Writes (K.held sink.old) (K.held sink.new) (joined_lines (branch_lines (members candidates.now) level (branches_seen branches.now.items)))
+    ensures bytes { WriteOutcome (K.held sink.old) (K.held sink.new)
+        (joined_lines (branch_lines (members candidates.now) level (branches_seen branches.now.items)))
         result }
     ensures cause { HasCause (K.faults sink.old) (K.faults sink.new) result }
     ensures quiet { OnOk result (K.faults sink.new ≡ K.faults sink.old) }
@@ -205,7 +206,7 @@ fn write_branches<K: Sink>(
 /// places, and a loop the names of its places. It takes no memory.
 pub fn write_why<K: Sink>(sink: &mut K, candidates: &Candidates, why: &Why) -> Result<(), EdgeFault>
     requires small { nodes (seen why.now) < 2 ^ 32 }
-    ensures bytes { Writes (K.held sink.old) (K.held sink.new) (why_bytes (members candidates.now) (seen why.now)) result }
+    ensures bytes { WriteOutcome (K.held sink.old) (K.held sink.new) (why_bytes (members candidates.now) (seen why.now)) result }
     ensures cause { HasCause (K.faults sink.old) (K.faults sink.new) result }
     ensures quiet { OnOk result (K.faults sink.new ≡ K.faults sink.old) }
 {

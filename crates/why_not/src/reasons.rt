@@ -4,7 +4,7 @@ ghost use Rattle.std.specs.Prelude.{◌≡◌, ◌<◌, ◌^◌, ℕ, [], ◌∷
 ghost use Rattle.std.specs.List.{Contains};
 ghost use Rattle.recipe_reader.specs.Members.{members};
 ghost use Rattle.recipe_reader.specs.Sets.{asked, needs_of};
-ghost use Rattle.recipe_reader.specs.Searches.{Suits};
+ghost use Rattle.recipe_reader.specs.Searches.{IsSuited};
 ghost use Rattle.why_not.specs.Reasons.{seen};
 ghost use Rattle.why_not.specs.Certificates.{RestsOn};
 ghost use Rattle.why_not.specs.Edges.{HasNoLoop};
@@ -28,7 +28,7 @@ pub(crate) struct Partial {
 /// The first taken place whose range refuses the place.
 pub(crate) fn first_against(candidates: &[Candidate], taken: &[u32], place: u32) -> Option<u32>
     ensures { MatchOption result
-        ((q : ℕ) → Contains taken.now q → Suits (members candidates.now) (needs_of (members candidates.now) q) place)
+        ((q : ℕ) → Contains taken.now q → IsSuited (members candidates.now) (needs_of (members candidates.now) q) place)
         (IsFirstAgainst (members candidates.now) taken.now place) }
 {
     for other in taken {
@@ -42,7 +42,7 @@ pub(crate) fn first_against(candidates: &[Candidate], taken: &[u32], place: u32)
 /// The first taken place that the place's own range refuses.
 fn first_unfit(candidates: &[Candidate], taken: &[u32], place: u32) -> Option<u32>
     ensures { MatchOption result
-        ((q : ℕ) → Contains taken.now q → Suits (members candidates.now) (needs_of (members candidates.now) place) q)
+        ((q : ℕ) → Contains taken.now q → IsSuited (members candidates.now) (needs_of (members candidates.now) place) q)
         (IsFirstRefusedBy (members candidates.now) taken.now place) }
 {
     for other in taken {

@@ -43,9 +43,9 @@ numbers_other child (c ∷ cs) = numbers_kept (not (c.number == child)) c (other
 
 -- ---- the last one is taken
 
-falls_front : (n : ℕ) (cs : List LivingChild) (c : LivingChild) → FallBelow n (cs ++ c ∷ []) → FallBelow n cs
-falls_front n [] c f = tt
-falls_front n (x ∷ cs) c f = (f.0, falls_front x.number cs c f.1)
+falls_prefix : (n : ℕ) (cs : List LivingChild) (c : LivingChild) → FallBelow n (cs ++ c ∷ []) → FallBelow n cs
+falls_prefix n [] c f = tt
+falls_prefix n (x ∷ cs) c f = (f.0, falls_prefix x.number cs c f.1)
 
 last_below : (n : ℕ) (cs : List LivingChild) (c : LivingChild) → FallBelow n (cs ++ c ∷ []) → c.number < n
 last_below n [] c f = f.0
@@ -77,4 +77,4 @@ took_without n (Some c) old new e f = rw e (without_last n new c (rw e at f))
 
 pub took_falls : (n : ℕ) (r : Option LivingChild) (old new : List LivingChild) → old ≡ new ++ option_to_list r → FallBelow n old → FallBelow n new
 took_falls n None old new e f = rw append-nil at (rw e at f)
-took_falls n (Some c) old new e f = falls_front n new c (rw e at f)
+took_falls n (Some c) old new e f = falls_prefix n new c (rw e at f)

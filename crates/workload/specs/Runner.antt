@@ -52,17 +52,17 @@ pub record EndsLeast (old new : DrawRunner) (child : ℕ) (exit : Exit) : Type 0
   pub now : now_of new ≡ now_of old
 
 -- no child lives, and the time passes
-pub record Passes (limit : ℕ) (old new : DrawRunner) : Type 0 where
+pub record HasElapsed (limit : ℕ) (old new : DrawRunner) : Type 0 where
   pub none : children_of old ≡ []
   pub rest : children_of new ≡ []
   pub now : now_of new ≡ in_time (now_of old + limit)
 
-abbrev pub Ends : ℕ → DrawRunner → DrawRunner → Waited → Type 0
-Ends limit old new (Ended child exit) = EndsLeast old new child exit
-Ends limit old new Elapsed = Passes limit old new
+abbrev pub WaitOutcome : ℕ → DrawRunner → DrawRunner → Waited → Type 0
+WaitOutcome limit old new (Ended child exit) = EndsLeast old new child exit
+WaitOutcome limit old new Elapsed = HasElapsed limit old new
 
 -- what neither a start nor an end changes
-pub record Same (old new : DrawRunner) : Type 0 where
+pub record IsSameWorkload (old new : DrawRunner) : Type 0 where
   pub draws : draws_from new ≡ draws_from old
   pub children : children_of new ≡ children_of old
   pub now : now_of new ≡ now_of old

@@ -1,5 +1,5 @@
 ghost use Rattle.std.specs.Prelude.{◌≡◌, ◌++◌, ◌∷◌, [], IsTrue, IfOk, None, Some, true, false};
-ghost use Rattle.step_runner.specs.Entries.{Notes};
+ghost use Rattle.step_runner.specs.Entries.{HasNoted};
 ghost use Rattle.step_runner.specs.declared.entries.Seen.{Seen};
 ghost use Rattle.step_runner.specs.declared.entries.Seen.TheVariants as seen;
 
@@ -53,7 +53,7 @@ impl EntryLog {
 
     /// Adds an entry, for which a moment has to be asked for anew.
     pub(crate) fn note(&mut self, seen: Seen)
-        ensures { Notes (log_told self.old) (log_told self.new) seen }
+        ensures { HasNoted (log_told self.old) (log_told self.new) seen }
     {
         let entry = RunnerEntry {
             moment: self.moment,
@@ -76,7 +76,7 @@ impl EntryLog {
 
     /// Adds an entry where there was memory for what it holds.
     fn note_made(&mut self, seen: Result<Seen, NoMemory>)
-        ensures { (s : Seen) → IfOk seen (λ x. x ≡ s) → Notes (log_told self.old) (log_told self.new) s }
+        ensures { (s : Seen) → IfOk seen (λ x. x ≡ s) → HasNoted (log_told self.old) (log_told self.new) s }
     {
         match seen {
             Ok(seen) => self.note(seen),
@@ -85,14 +85,14 @@ impl EntryLog {
     }
 
     pub(crate) fn note_start(&mut self, child: u64, command: &Command)
-        ensures { Notes (log_told self.old) (log_told self.new) (seen.Started child command.now) }
+        ensures { HasNoted (log_told self.old) (log_told self.new) (seen.Started child command.now) }
     {
         let seen = started(self.alloc, child, command);
         self.note_made(seen);
     }
 
     pub(crate) fn note_refusal(&mut self, command: &Command)
-        ensures { Notes (log_told self.old) (log_told self.new) (seen.Refused command.now) }
+        ensures { HasNoted (log_told self.old) (log_told self.new) (seen.Refused command.now) }
     {
         let seen = refused(self.alloc, command);
         self.note_made(seen);
@@ -100,7 +100,7 @@ impl EntryLog {
 
     /// Nothing stands at the path.
     pub(crate) fn note_absent_path(&mut self, path: &Text)
-        ensures { Notes (log_told self.old) (log_told self.new) (seen.Exists path.now false) }
+        ensures { HasNoted (log_told self.old) (log_told self.new) (seen.Exists path.now false) }
     {
         let seen = absent_path(self.alloc, path);
         self.note_made(seen);
@@ -108,7 +108,7 @@ impl EntryLog {
 
     /// No program of this name is found.
     pub(crate) fn note_absent_program(&mut self, word: &Text)
-        ensures { Notes (log_told self.old) (log_told self.new) (seen.OnPath word.now false) }
+        ensures { HasNoted (log_told self.old) (log_told self.new) (seen.OnPath word.now false) }
     {
         let seen = absent_program(self.alloc, word);
         self.note_made(seen);

@@ -2,7 +2,7 @@
 ghost use Rattle.std.specs.Prelude.{◌≡◌, ◌≤◌, ◌<◌, ◌+◌, ◌^◌, ◌∷◌, [], Some, false, true, Contains};
 ghost use Rattle.std.specs.Prelude.{IfOk, IfSome, IfNone, OnErr};
 ghost use Rattle.nuc_base.specs.Faults.{HasCause, Rose};
-ghost use Rattle.step_runner.specs.Entries.{Notes, Listed, without};
+ghost use Rattle.step_runner.specs.Entries.{HasNoted, Listed, without};
 ghost use Rattle.step_runner.specs.Waits.{waited, WaitLives, WaitTime, WaitFaults, IsOwnEnd};
 ghost use Rattle.step_runner.specs.declared.entries.Seen.TheVariants as seen;
 ghost use Rattle.workload.specs.Children.{FallBelow, fall_below-prop, child_of, other_children, code_drawn};
@@ -36,14 +36,14 @@ pub struct DrawRunner {
 
 impl DrawRunner {
     ghost use Rattle.workload.specs.Runner.{draws_from, children_of, entries_kept, entries_told, moment_asked, is_asked};
-    ghost use Rattle.workload.specs.Runner.{now_of, living_of, started_by, faults_by, Same};
+    ghost use Rattle.workload.specs.Runner.{now_of, living_of, started_by, faults_by, IsSameWorkload};
 
     /// Draws go on from this state.
     pub fn new(alloc: Global, state: u64) -> DrawRunner
         ensures draws { draws_from result ≡ state }
         ensures children { children_of result ≡ [] }
         ensures list { entries_told result ≡ Some [] }
-        ensures told { moment_asked result ≡ 0 }
+        ensures moment { moment_asked result ≡ 0 }
         ensures asked { is_asked result ≡ false }
         ensures now { now_of result ≡ 0 }
         ensures started { started_by result ≡ 0 }
@@ -97,7 +97,7 @@ impl DrawRunner {
 
 impl Runner for DrawRunner {
     ghost use Rattle.workload.specs.Runner.{draws_from, children_of, entries_told, moment_asked, is_asked, now_of, living_of, started_by, faults_by};
-    ghost use Rattle.workload.specs.Runner.{Same, Ends};
+    ghost use Rattle.workload.specs.Runner.{IsSameWorkload, WaitOutcome};
 
     ghost list = { entries_told };
 
@@ -114,12 +114,12 @@ impl Runner for DrawRunner {
     ghost faults = { faults_by };
 
     fn start(&mut self, command: &Command) -> Result<u64, RunnerFault>
-        ensures ok { IfOk result (λ n. Notes (Listed entries_told moment_asked is_asked self.old) (Listed entries_told moment_asked is_asked self.new)
+        ensures ok { IfOk result (λ n. HasNoted (Listed entries_told moment_asked is_asked self.old) (Listed entries_told moment_asked is_asked self.new)
             (seen.Started n command.now)) }
         ensures number { IfOk result (λ n. (n ≡ started_by self.old) × (started_by self.new ≡ n + 1)) }
         ensures lives { IfOk result (λ n. living_of self.new ≡ n ∷ living_of self.old) }
         ensures fresh { IfOk result (λ n. ¬ Contains (living_of self.old) n) }
-        ensures err { OnErr result (Notes (Listed entries_told moment_asked is_asked self.old) (Listed entries_told moment_asked is_asked self.new)
+        ensures err { OnErr result (HasNoted (Listed entries_told moment_asked is_asked self.old) (Listed entries_told moment_asked is_asked self.new)
             (seen.Refused command.now)) }
         ensures same { OnErr result ((living_of self.new ≡ living_of self.old) × (started_by self.new ≡ started_by self.old)) }
         ensures time { now_of self.old ≤ now_of self.new }
@@ -143,13 +143,14 @@ impl Runner for DrawRunner {
 
     fn wait(&mut self, limit: u64) -> Waited
         requires { limit ≤ 1000000000 }
-        ensures notes { Notes (Listed entries_told moment_asked is_asked self.old) (Listed entries_told moment_asked is_asked self.new) (waited limit result) }
+        ensures notes { HasNoted (Listed entries_told moment_asked is_asked self.old) (Listed entries_told moment_asked is_asked self.new)
+            (waited limit result) }
         ensures lives { WaitLives (living_of self.old) (living_of self.new) result }
         ensures exit { IsOwnEnd result }
         ensures time { WaitTime (now_of self.old) (now_of self.new) limit result }
         ensures same { started_by self.new ≡ started_by self.old }
         ensures faults { WaitFaults (faults_by self.old) (faults_by self.new) result }
-        ensures ends { Ends limit self.old self.new result }
+        ensures ends { WaitOutcome limit self.old self.new result }
         ensures draws { draws_from self.new ≡ draws_from self.old }
         ensures quiet { faults_by self.new ≡ faults_by self.old }
     {
@@ -169,7 +170,7 @@ impl Runner for DrawRunner {
 
     fn kill(&mut self, child: u64)
         requires { Contains (living_of self.old) child }
-        ensures notes { Notes (Listed entries_told moment_asked is_asked self.old) (Listed entries_told moment_asked is_asked self.new) (seen.Killed child) }
+        ensures notes { HasNoted (Listed entries_told moment_asked is_asked self.old) (Listed entries_told moment_asked is_asked self.new) (seen.Killed child) }
         ensures lives { living_of self.new ≡ without child (living_of self.old) }
         ensures time { now_of self.old ≤ now_of self.new }
         ensures same { started_by self.new ≡ started_by self.old }
@@ -182,7 +183,7 @@ impl Runner for DrawRunner {
     }
 
     fn moment(&mut self) -> u64
-        ensures told { moment_asked self.new ≡ result }
+        ensures moment { moment_asked self.new ≡ result }
         ensures now { now_of self.new ≡ result }
         ensures later { now_of self.old ≤ result }
         ensures in_time { result < 2 ^ 62 }
@@ -191,35 +192,35 @@ impl Runner for DrawRunner {
         ensures lives { living_of self.new ≡ living_of self.old }
         ensures same { started_by self.new ≡ started_by self.old }
         ensures faults { faults_by self.old ≤ faults_by self.new }
-        ensures rest { Same self.old self.new }
+        ensures rest { IsSameWorkload self.old self.new }
     {
         self.log.tell(self.clock);
         self.clock
     }
 
     fn exists(&mut self, path: &Text) -> bool
-        ensures notes { Notes (Listed entries_told moment_asked is_asked self.old) (Listed entries_told moment_asked is_asked self.new)
+        ensures notes { HasNoted (Listed entries_told moment_asked is_asked self.old) (Listed entries_told moment_asked is_asked self.new)
             (seen.Exists path.now result) }
         ensures lives { living_of self.new ≡ living_of self.old }
         ensures time { now_of self.old ≤ now_of self.new }
         ensures same { started_by self.new ≡ started_by self.old }
         ensures faults { faults_by self.old ≤ faults_by self.new }
         ensures absent { result ≡ false }
-        ensures rest { Same self.old self.new }
+        ensures rest { IsSameWorkload self.old self.new }
     {
         self.log.note_absent_path(path);
         false
     }
 
     fn on_path(&mut self, word: &Text) -> bool
-        ensures notes { Notes (Listed entries_told moment_asked is_asked self.old) (Listed entries_told moment_asked is_asked self.new)
+        ensures notes { HasNoted (Listed entries_told moment_asked is_asked self.old) (Listed entries_told moment_asked is_asked self.new)
             (seen.OnPath word.now result) }
         ensures lives { living_of self.new ≡ living_of self.old }
         ensures time { now_of self.old ≤ now_of self.new }
         ensures same { started_by self.new ≡ started_by self.old }
         ensures faults { faults_by self.old ≤ faults_by self.new }
         ensures absent { result ≡ false }
-        ensures rest { Same self.old self.new }
+        ensures rest { IsSameWorkload self.old self.new }
     {
         self.log.note_absent_program(word);
         false

@@ -10,6 +10,6 @@ memory_laws = record {
   counts_now = λ d t c le left. counts_now d.calls.items (image_of d.start) t c le left;
   only_now = λ d c left. only_now d.calls.items (image_of d.start) c left;
   earlier = λ d s t c le left. earlier d.calls.items (image_of d.start) s t c le left;
-  told = λ d t c left. refl;
+  modelled = λ d t c left. refl;
   reads = λ d told. reads d.calls.items (image_of d.start);
 }

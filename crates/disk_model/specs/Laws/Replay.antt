@@ -4,7 +4,7 @@ use Rattle.std.proofs.Common.{inl, inr, sym, ◌∙◌, ap, subst, arith, append
 use Rattle.std.proofs.lemmas.Bool.{cases_lt, false_from_ne_true}
 use Rattle.std.proofs.lemmas.List.{take_all, take-append-le, take_at, drop_at, drop_all, take_min, length-take, length-take-le}
 use Rattle.std.proofs.lemmas.Slice.Eq.{bytes_eq-Decides}
-use Rattle.disk_model.specs.Disk.{Image, Torn, Cut, Step, After, Leaves}
+use Rattle.disk_model.specs.Disk.{Image, Torn, Cut, Step, IsAfter, HasLeft}
 use Rattle.disk_model.specs.Put.{put, overwritten}
 use Rattle.disk_model.specs.Record.{seen_step, images_step, seen_after, images_after, left_after, left_from}
 use Rattle.disk_model.specs.declared.record.Call.{Call}
@@ -34,15 +34,15 @@ put_other file bytes image name ne = ap (λ (b : Bool). if b then bytes else ima
 -- a write and a cut that are done are among those that a crash may leave, and so are those that are not begun
 pub torn_done : (at : ℕ) (bytes old : List ℕ) → at ≤ length old → Torn at (length bytes) old (overwritten at bytes old)
 torn_done at bytes old le =
-    let front = take at old in
-    let size : length front ≡ at = length-take-le at old le in
-    let sizes : length (front ++ bytes) ≡ at + length bytes = omega (arith, length-append front bytes, size) in
+    let prefix = take at old in
+    let size : length prefix ≡ at = length-take-le at old le in
+    let sizes : length (prefix ++ bytes) ≡ at + length bytes = omega (arith, length-append prefix bytes, size) in
     record {
-      before = ap (λ (l : List ℕ). take at l) (append_assoc front bytes (drop (at + length bytes) old)) ∙ take_at front
+      before = ap (λ (l : List ℕ). take at l) (append_assoc prefix bytes (drop (at + length bytes) old)) ∙ take_at prefix
           (bytes ++ drop (at + length bytes) old) at size;
-      after = drop_at (front ++ bytes) (drop (at + length bytes) old) (at + length bytes) sizes;
-      no_shorter = omega (arith, length-append (front ++ bytes) (drop (at + length bytes) old), sizes, length-drop (at + length bytes) old);
-      no_longer = omega (arith, length-append (front ++ bytes) (drop (at + length bytes) old), sizes, length-drop (at + length bytes) old);
+      after = drop_at (prefix ++ bytes) (drop (at + length bytes) old) (at + length bytes) sizes;
+      no_shorter = omega (arith, length-append (prefix ++ bytes) (drop (at + length bytes) old), sizes, length-drop (at + length bytes) old);
+      no_longer = omega (arith, length-append (prefix ++ bytes) (drop (at + length bytes) old), sizes, length-drop (at + length bytes) old);
     }
 
 pub torn_by : (at : ℕ) (bytes old : List ℕ) → Torn (min at (length old)) (length bytes) old (overwritten at bytes old)
@@ -66,15 +66,15 @@ torn_none at n old = record { before = refl; after = refl; no_shorter = omega ar
 pub cut_done : (n : ℕ) (old : List ℕ) → Cut n old (take n old)
 cut_done n old = record {
   no_shorter = omega (arith, length-take n old);
-  front = sym (take_min n old) ∙ ap (λ (k : ℕ). take k old) (sym (length-take n old));
+  prefix = sym (take_min n old) ∙ ap (λ (k : ℕ). take k old) (sym (length-take n old));
 }
 
 pub cut_none : (n : ℕ) (old : List ℕ) → Cut n old old
-cut_none n old = record { no_shorter = omega arith; front = sym (take_all (length old) old (omega arith)) }
+cut_none n old = record { no_shorter = omega arith; prefix = sym (take_all (length old) old (omega arith)) }
 
 -- a step that changes nothing
 pub unchanged : (images : Image → Type 0) (file : List ℕ) (change : List ℕ → List ℕ → Type 0) → ((l : List ℕ) → change l l) → (c : Image) → images c →
-    After images (Step file change) c
+    IsAfter images (Step file change) c
 unchanged images file change none c left = (c, left, record { here = none (c file); others = λ name ne. refl })
 
 pub reads_step : (call : Call) (image : Image) (images : Image → Type 0) → images image → images_step call image images (seen_step call image)
@@ -125,7 +125,7 @@ earlier calls start s t c le left = (left.0, omega (arith, left.1), left.2, left
 module _ {D : Type 0} (calls : D → List Call) (start : D → Image) where
   -- a call that adds nothing to the record
   pub leaves_same : (old new : D) → calls new ≡ calls old → start new ≡ start old
-      → Leaves (λ d. length (calls d)) (λ d t c. left_from (calls d) (start d) t c) old new (left_after (calls old) (start old))
+      → HasLeft (λ d. length (calls d)) (λ d t c. left_from (calls d) (start d) t c) old new (left_after (calls old) (start old))
   leaves_same old new same_calls same_start =
       let to : (t : ℕ) (c : Image) → left_from (calls new) (start new) t c → left_from (calls old) (start old) t c
       = λ t c left. subst (λ (i : Image). left_from (calls old) i t c) same_start (subst (λ (l : List Call). left_from l (start new) t c) same_calls left) in
@@ -141,7 +141,7 @@ module _ {D : Type 0} (calls : D → List Call) (start : D → Image) where
   pub leaves_push : (old new : D) (call : Call) (P : Image → Type 0) → calls new ≡ calls old ++ call ∷ [] → start new ≡ start old
       → ((c : Image) → left_after (calls old) (start old) c → P c)
       → ((c : Image) → images_step call (seen_after (calls old) (start old)) (left_after (calls old) (start old)) c → P c)
-      → Leaves (λ d. length (calls d)) (λ d t c. left_from (calls d) (start d) t c) old new P
+      → HasLeft (λ d. length (calls d)) (λ d t c. left_from (calls d) (start d) t c) old new P
   leaves_push old new call P pushed same_start before after = record {
     later = omega (arith, sizes);
     each = λ c left. elim (split (length (calls old)) c (to (length (calls old)) c left)) [

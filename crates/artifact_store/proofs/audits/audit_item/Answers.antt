@@ -4,7 +4,7 @@ use Rattle.nuc_base.specs.Tables.{each}
 use Rattle.disk_model.specs.Moments.{then_same}
 use Rattle.records.specs.Stored.{item_view}
 use Rattle.records.specs.declared.record.Held.{Held}
-use Rattle.artifact_store.specs.Audited.{Audits, held_line}
+use Rattle.artifact_store.specs.Audited.{AuditOutcome, held_line}
 use Rattle.artifact_store.specs.Paths.{path}
 use Rattle.artifact_store.proofs.Auditing.{held_next, hashed_file}
 use Rattle.artifact_store.proofs.Walking.{next_is}
@@ -31,7 +31,7 @@ loop-held-preserved g c =
           let holds = hashed_file (g.D.Disk.seen c.loop-held.disk) c.as_str.result.now (path item.name item.version x.file) c.in_ok-digest.digest x.digest
           (c.as_str.ensures ∙ c.in_ok-file.ensures) (c.in_ok-digest.ensures.told told) same in
           so.rest told r
-          (subst (λ (ys : List Held). Audits (each (held_line image item) ys) r) (sym next)
+          (subst (λ (ys : List Held). AuditOutcome (each (held_line image item) ys) r) (sym next)
           (held_next image item x (drop (i + 1) all) r (ap (λ (m : List ℕ → List ℕ). sha256 (m (path item.name item.version x.file))) (sym so.seen) ∙ holds)
           said));
     }

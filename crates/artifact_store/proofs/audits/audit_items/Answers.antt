@@ -6,7 +6,7 @@ use Rattle.disk_model.specs.Moments.{then_same}
 use Rattle.records.specs.Stored.{item_view}
 use Rattle.records.specs.Stored as stored
 use Rattle.records.specs.declared.record.Item.{Item}
-use Rattle.artifact_store.specs.Audited.{Audits, item_line, items_lines}
+use Rattle.artifact_store.specs.Audited.{AuditOutcome, item_line, items_lines}
 use Rattle.artifact_store.proofs.Auditing.{item_next, item_here, said_of}
 use Rattle.artifact_store.proofs.audits.audit_items.Goals as goal
 
@@ -19,11 +19,11 @@ returns-in-Some-clause-told g c = λ told.
     let below : i < length all = omega arith in
     let next : map item_view (drop i all) ≡ item_view x ∷ map item_view (drop (i + 1) all) = map_next item_view all i x below c.item-item.is in
     let image = g.D.Disk.seen c.args.disk.now in
-    let said : Audits (item_line image (item_view x)) (Some c.in-Some.found) =
+    let said : AuditOutcome (item_line image (item_view x)) (Some c.in-Some.found) =
     said_of (item_line image (item_view x)) c.in_ok-found.field-0 (Some c.in-Some.found) c.in-Some.is
-    (subst (λ (m : Image). Audits (item_line m (item_view x)) c.in_ok-found.field-0) so.seen (c.in_ok-found.ensures.told told)) in
+    (subst (λ (m : Image). AuditOutcome (item_line m (item_view x)) c.in_ok-found.field-0) so.seen (c.in_ok-found.ensures.told told)) in
     so.rest told (Some c.in-Some.found)
-    (subst (λ (ys : List stored.Item). Audits (items_lines image ys) (Some c.in-Some.found)) (sym next)
+    (subst (λ (ys : List stored.Item). AuditOutcome (items_lines image ys) (Some c.in-Some.found)) (sym next)
     (item_here image (item_view x) (map item_view (drop (i + 1) all)) c.in-Some.found said))
 
 pub returns-in-Some-clause-moments : goal.returns-in-Some-clause-moments
@@ -45,9 +45,9 @@ loop-item-preserved g c =
       faults = c.in_ok-found.ensures.quiet (λ e. cc e) ∙ so.faults;
       long = c.audit_item.ensures.long;
       rest = λ told r said.
-          let held : Audits (item_line image (item_view x)) None =
+          let held : AuditOutcome (item_line image (item_view x)) None =
           said_of (item_line image (item_view x)) c.in_ok-found.field-0 None c.in-None.is
-          (subst (λ (m : Image). Audits (item_line m (item_view x)) c.in_ok-found.field-0) so.seen (c.in_ok-found.ensures.told told)) in
-          so.rest told r (subst (λ (ys : List stored.Item). Audits (items_lines image ys) r) (sym next)
+          (subst (λ (m : Image). AuditOutcome (item_line m (item_view x)) c.in_ok-found.field-0) so.seen (c.in_ok-found.ensures.told told)) in
+          so.rest told r (subst (λ (ys : List stored.Item). AuditOutcome (items_lines image ys) r) (sym next)
           (item_next image (item_view x) (map item_view (drop (i + 1) all)) r held said));
     }

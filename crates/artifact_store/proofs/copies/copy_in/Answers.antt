@@ -5,7 +5,8 @@ use Rattle.disk_model.specs.Moments.{at_start, weaker, then_spares, none_spares}
 use Rattle.disk_model.specs.Spares.{IsFile}
 use Rattle.artifact_store.specs.Filled.{IsDigestOf}
 use Rattle.artifact_store.specs.Staged.{found_lines}
-use Rattle.artifact_store.proofs.Copying.{IsFront, front_kept, within_room, front_none, front_next, written_more, copied_missing, copied_long, copied_all}
+use Rattle.artifact_store.proofs.Copying.{IsFoundPrefix, prefix_kept}
+use Rattle.artifact_store.proofs.Copying.{within_room, prefix_none, prefix_next, written_more, copied_missing, copied_long, copied_all}
 use Rattle.artifact_store.proofs.Copying.{file_step, file_seen}
 use Rattle.artifact_store.proofs.Counting.{counts_good, counts_memory, counts_missing, counts_long, counts_disk, counts_library, counts_after, stages_err}
 use Rattle.artifact_store.proofs.Counting.{outside_of}
@@ -26,7 +27,7 @@ pieces-init g c = record {
     c.new-hasher.ensures,
     refl,
     c.requires.empty,
-    λ l e. front_none (l.artifact c.args.item.now.name c.args.item.now.version c.args.artifact.now.file),
+    λ l e. prefix_none (l.artifact c.args.item.now.name c.args.item.now.version c.args.artifact.now.file),
   );
 }
 
@@ -109,7 +110,7 @@ pieces-preserved g c =
     let long : length m ≡ c.pieces.at = so.copied.2 in
     let n = c.in-Bytes.count in
     let bytes = take n c.deref.result.now in
-    let given : c.deref.result.now ≡ c.artifact.new.into = front_kept c.artifact.new.into _ _ _ c.deref.ensures.value
+    let given : c.deref.result.now ≡ c.artifact.new.into = prefix_kept c.artifact.new.into _ _ _ c.deref.ensures.value
     (c.artifact.auto.into ∙ c.deref_mut.ensures.len) in
     let within : n ≤ length c.deref.result.now = omega (
       arith,
@@ -137,8 +138,8 @@ pieces-preserved g c =
             (c.deref-in-Bytes.ensures.value ∙ sym c.deref.ensures.value),
         λ l e.
             let found = l.artifact c.args.item.now.name c.args.item.now.version c.args.artifact.now.file in
-            subst (λ (r : List ℕ). IsFront found (m ++ take n r)) (sym given)
-            (front_next found m _ c.artifact.new.into c.pieces.at n c.in_ok-artifact.field-0 (c.in_ok-artifact.ensures.told l (so.content ∙ e)) c.in-Bytes.is
+            subst (λ (r : List ℕ). IsFoundPrefix found (m ++ take n r)) (sym given)
+            (prefix_next found m _ c.artifact.new.into c.pieces.at n c.in_ok-artifact.field-0 (c.in_ok-artifact.ensures.told l (so.content ∙ e)) c.in-Bytes.is
             long (so.copied.4 l e)),
       );
     }

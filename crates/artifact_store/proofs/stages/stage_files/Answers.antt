@@ -1,7 +1,7 @@
 use Rattle.std.proofs.Common.{◌≡◌, ◌+◌, ◌<◌, ◌≤◌, List, [], ◌∷◌, ◌++◌, length, map, drop, refl, sym, subst, ◌∙◌, arith}
 use Rattle.std.specs.List.{AllZip}
 use Rattle.disk_model.specs.Spares.{IsFile}
-use Rattle.nuc_base.specs.Tables.{Passes, each}
+use Rattle.nuc_base.specs.Tables.{IsPass, each}
 use Rattle.nuc_base.specs.declared.artifact.Artifact.{Artifact}
 use Rattle.nuc_base.proofs.Tables.{passes_start, passes_more, passes_end}
 use Rattle.records.specs.Stored.{draft_item_view}
@@ -31,11 +31,11 @@ loop-artifact-init g c =
       differ = differ_of (map artifact_file c.args.item.now.artifacts) c.requires.differ;
       apart = subst (λ (hs : List Held). Apart (λ (h : Held). h.file) artifact_file hs all) none (apart_none (λ (h : Held). h.file) artifact_file all);
       held = λ image left. subst (λ (hs : List Held). HoldsFiles image c.args.item.now.name c.args.item.now.version hs) none tt;
-      given = subst (λ (hs : List Held). Passes no_lines IsHeldFor all all hs) none (passes_start no_lines IsHeldFor all);
+      given = subst (λ (hs : List Held). IsPass no_lines IsHeldFor all all hs) none (passes_start no_lines IsHeldFor all);
       passes = λ l e.
           let lines = artifact_lines l (draft_item_view c.args.item.now) in
           let Is = FillsFile l (draft_item_view c.args.item.now) in
-          subst (λ (hs : List Held). Passes lines Is all all hs) none (passes_start lines Is all);
+          subst (λ (hs : List Held). IsPass lines Is all all hs) none (passes_start lines Is all);
     }
 
 pub returns-in_err-digest-clause-moments : goal.returns-in_err-digest-clause-moments
@@ -76,7 +76,7 @@ returns-in_err-digest-clause-staged g c = λ l e.
     let lines = artifact_lines l (draft_item_view c.args.item.now) in
     let Is = FillsFile l (draft_item_view c.args.item.now) in
     let helds : List Held = c.loop-artifact.helds.items in
-    let left : Passes lines Is all (x ∷ drop (i + 1) all) helds = subst (λ (ys : List Artifact). Passes lines Is all ys helds) next (so.passes l e) in
+    let left : IsPass lines Is all (x ∷ drop (i + 1) all) helds = subst (λ (ys : List Artifact). IsPass lines Is all ys helds) next (so.passes l e) in
     stages_err (each lines all) (λ hs. AllZip Is all hs) _ _ c.from_residual.ensures.1
     (passes_said lines Is all x (drop (i + 1) all) helds c.in_err-digest.field-0.0 left (c.in_err-digest.ensures.staged l (so.content ∙ e)))
 
@@ -178,7 +178,7 @@ loop-artifact-preserved g c =
     let differ : Differ (map artifact_file (x ∷ rest)) = subst (λ (ys : List Artifact). Differ (map artifact_file ys)) next so.differ in
     let apart : Apart (λ (k : Held). k.file) artifact_file helds (x ∷ rest) =
     subst (λ (ys : List Artifact). Apart (λ (k : Held). k.file) artifact_file helds ys) next so.apart in
-    let given : Passes no_lines IsHeldFor all (x ∷ rest) helds = subst (λ (ys : List Artifact). Passes no_lines IsHeldFor all ys helds) next so.given in
+    let given : IsPass no_lines IsHeldFor all (x ∷ rest) helds = subst (λ (ys : List Artifact). IsPass no_lines IsHeldFor all ys helds) next so.given in
     record {
       goes = more_spares g.met.D.Disk.laws (IsFile place) (IsFileOfDraft (draft_item_view c.args.item.now)) c.args.disk.now c.loop-artifact.disk
           c.stage_file.new.disk (λ name is. (x, next_in all i x _ next, is)) so.goes c.stage_file.ensures.moments;
@@ -196,14 +196,14 @@ loop-artifact-preserved g c =
           (held_more g.met.D.Disk.laws c.args.item.now.name c.args.item.now.version x rest helds h c.loop-artifact.disk c.stage_file.new.disk
           c.stage_file.ensures.moments apart c.in_ok-held.ensures.0
           (λ found was. c.in_ok-digest.ensures.held found was ∙ sym c.in_ok-held.ensures.1) so.held image left);
-      given = subst (λ (hs : List Held). Passes no_lines IsHeldFor all rest hs) more
+      given = subst (λ (hs : List Held). IsPass no_lines IsHeldFor all rest hs) more
           (passes_more no_lines IsHeldFor all x rest helds h given tt (held_file x h digest c.in_ok-held.ensures c.in_ok-digest.ensures.given));
       passes = λ l e.
           let lines = artifact_lines l (draft_item_view c.args.item.now) in
           let Is = FillsFile l (draft_item_view c.args.item.now) in
-          let left : Passes lines Is all (x ∷ rest) helds = subst (λ (ys : List Artifact). Passes lines Is all ys helds) next (so.passes l e) in
+          let left : IsPass lines Is all (x ∷ rest) helds = subst (λ (ys : List Artifact). IsPass lines Is all ys helds) next (so.passes l e) in
           let said = c.in_ok-digest.ensures.staged l (so.content ∙ e) in
-          subst (λ (hs : List Held). Passes lines Is all rest hs) more
+          subst (λ (hs : List Held). IsPass lines Is all rest hs) more
           (passes_more lines Is all x rest helds h left said.0 (fills_file l (draft_item_view c.args.item.now) x h digest c.in_ok-held.ensures.1 said.1));
     }
 
@@ -218,7 +218,7 @@ returns-clause-given g c =
     let helds : List Held = c.loop-artifact.helds.items in
     let past : length xs ≤ c.loop-artifact.artifact-index = omega arith in
     let none = end_is xs all c.loop-artifact.artifact-index c.as_slice-artifact-items.ensures past in
-    let passes : Passes no_lines IsHeldFor all [] helds = subst (λ (ys : List Artifact). Passes no_lines IsHeldFor all ys helds) none
+    let passes : IsPass no_lines IsHeldFor all [] helds = subst (λ (ys : List Artifact). IsPass no_lines IsHeldFor all ys helds) none
     c.loop-artifact.invariant.given in
     subst (λ (hs : List Held). AllZip IsHeldFor all hs) (sym c.new.ensures) (passes_end no_lines IsHeldFor all helds passes).1
 
@@ -231,7 +231,7 @@ returns-clause-staged g c = λ l e.
     let none = end_is xs all c.loop-artifact.artifact-index c.as_slice-artifact-items.ensures past in
     let lines = artifact_lines l (draft_item_view c.args.item.now) in
     let Is = FillsFile l (draft_item_view c.args.item.now) in
-    let passes : Passes lines Is all [] helds = subst (λ (ys : List Artifact). Passes lines Is all ys helds) none (c.loop-artifact.invariant.passes l e) in
+    let passes : IsPass lines Is all [] helds = subst (λ (ys : List Artifact). IsPass lines Is all ys helds) none (c.loop-artifact.invariant.passes l e) in
     let done = passes_end lines Is all helds passes in
     (done.0, subst (λ (hs : List Held). AllZip Is all hs) (sym c.new.ensures) done.1)
 

@@ -1,12 +1,12 @@
 use Rattle.std.proofs.Common.{◌≡◌, List, [], ◌∷◌, ◌++◌, map, refl, sym, ap, subst, ◌∙◌, arith}
 use Rattle.std.specs.List.{AllByRecursion, AllZip, Contains}
 use Rattle.std.specs.Vec.Iter.{into_iter_items}
-use Rattle.nuc_base.specs.Tables.{Passes, each}
+use Rattle.nuc_base.specs.Tables.{IsPass, each}
 use Rattle.nuc_base.proofs.Lists.{in_here, in_there}
 use Rattle.nuc_base.proofs.Tables.{passes_start, passes_more, passes_end}
 use Rattle.records.specs.Stored.{Item, DraftItem, item_view, draft_item_view}
 use Rattle.records.specs.declared.record.Item as code
-use Rattle.device.specs.Filled.{FillsItem}
+use Rattle.device.specs.Filled.{ItemFilled}
 use Rattle.artifact_store.specs.Filled.{FillsFiles}
 use Rattle.artifact_store.specs.Holding.{AllHoldItems, HoldsItems}
 use Rattle.artifact_store.specs.Paths.{IsNamed, IsNamedDraft}
@@ -44,12 +44,12 @@ loop-draft-init g c =
       named = subst (λ (ys : List Item). AllByRecursion IsNamed ys) none tt;
       kept = λ holds. holds;
       held = λ holds image left. subst (λ (ys : List Item). HoldsItems image ys) none tt;
-      filled = subst (λ (ys : List Item). Passes no_lines FillsItem all (map draft_item_view (into_iter_items c.into_iter-draft-iterator.result)) ys) none
-          (subst (λ (ys : List DraftItem). Passes no_lines FillsItem all ys []) whole (passes_start no_lines FillsItem all));
+      filled = subst (λ (ys : List Item). IsPass no_lines ItemFilled all (map draft_item_view (into_iter_items c.into_iter-draft-iterator.result)) ys) none
+          (subst (λ (ys : List DraftItem). IsPass no_lines ItemFilled all ys []) whole (passes_start no_lines ItemFilled all));
       passes = λ l e.
-          subst (λ (ys : List Item). Passes (item_lines l kept) (FillsFiles l) all (map draft_item_view (into_iter_items c.into_iter-draft-iterator.result))
+          subst (λ (ys : List Item). IsPass (item_lines l kept) (FillsFiles l) all (map draft_item_view (into_iter_items c.into_iter-draft-iterator.result))
           ys) none
-          (subst (λ (ys : List DraftItem). Passes (item_lines l kept) (FillsFiles l) all ys []) whole (passes_start (item_lines l kept) (FillsFiles l) all));
+          (subst (λ (ys : List DraftItem). IsPass (item_lines l kept) (FillsFiles l) all ys []) whole (passes_start (item_lines l kept) (FillsFiles l) all));
     }
 
 pub returns-in_err-item-clause-moments : goal.returns-in_err-item-clause-moments
@@ -85,8 +85,8 @@ returns-in_err-item-clause-staged g c = λ l e.
     let rest = map draft_item_view (into_iter_items c.next.new.self) in
     let left : map draft_item_view (into_iter_items c.loop-draft.draft-iterator) ≡ x ∷ rest = ap (map draft_item_view) c.in-Some.ensures.steps.0 in
     let done = map item_view c.loop-draft.items.items in
-    let passes : Passes (item_lines l kept) (FillsFiles l) all (x ∷ rest) done =
-    subst (λ (ys : List DraftItem). Passes (item_lines l kept) (FillsFiles l) all ys done) left (so.passes l e) in
+    let passes : IsPass (item_lines l kept) (FillsFiles l) all (x ∷ rest) done =
+    subst (λ (ys : List DraftItem). IsPass (item_lines l kept) (FillsFiles l) all ys done) left (so.passes l e) in
     stages_err (each (item_lines l kept) all) (λ (is : List code.Item). AllZip (FillsFiles l) all (map item_view is)) _ _ c.from_residual.ensures.1
     (passes_said (item_lines l kept) (FillsFiles l) all x rest done c.in_err-item.field-0.0 passes (c.in_err-item.ensures.staged l (so.content ∙ e)))
 
@@ -143,7 +143,7 @@ loop-draft-preserved g c =
     let counts = c.in_ok-item.ensures.counts in
     let done = map item_view c.loop-draft.items.items in
     let made = item_view c.in_ok-item.item in
-    let fills : FillsItem x made = c.in_ok-item.ensures.fills in
+    let fills : ItemFilled x made = c.in_ok-item.ensures.fills in
     let more : done ++ made ∷ [] ≡ map item_view c.push.new.self.items =
     sym (ap (map item_view) c.in_ok-push.ensures.items ∙ map_push item_view c.loop-draft.items.items c.in_ok-item.item) in
     let drafted : AllByRecursion IsNamedDraft (x ∷ rest) = subst (λ (ys : List DraftItem). AllByRecursion IsNamedDraft ys) left so.drafted in
@@ -151,7 +151,7 @@ loop-draft-preserved g c =
     let keeps : AllByRecursion (KeepsFiles kept) (x ∷ rest) = subst (λ (ys : List DraftItem). AllByRecursion (KeepsFiles kept) ys) left so.keeps in
     let names : Differ (map draft_name (x ∷ rest)) = subst (λ (ys : List DraftItem). Differ (map draft_name ys)) left so.names in
     let apart : Apart item_named draft_name done (x ∷ rest) = subst (λ (ys : List DraftItem). Apart item_named draft_name done ys) left so.apart in
-    let filled : Passes no_lines FillsItem all (x ∷ rest) done = subst (λ (ys : List DraftItem). Passes no_lines FillsItem all ys done) left so.filled in
+    let filled : IsPass no_lines ItemFilled all (x ∷ rest) done = subst (λ (ys : List DraftItem). IsPass no_lines ItemFilled all ys done) left so.filled in
     record {
       can_next = tt;
       is_finite = tt;
@@ -176,12 +176,12 @@ loop-draft-preserved g c =
           (items_more g.met.D.Disk.laws kept x done made c.loop-draft.disk c.stage_item.new.disk so.named drafted.0
           (heads_apart item_named draft_name done x rest apart) c.stage_item.ensures.moments
           (c.in_ok-item.ensures.held (so.kept holds)) (so.held holds));
-      filled = subst (λ (ys : List Item). Passes no_lines FillsItem all rest ys) more (passes_more no_lines FillsItem all x rest done made filled tt fills);
+      filled = subst (λ (ys : List Item). IsPass no_lines ItemFilled all rest ys) more (passes_more no_lines ItemFilled all x rest done made filled tt fills);
       passes = λ l e.
-          let passes : Passes (item_lines l kept) (FillsFiles l) all (x ∷ rest) done =
-          subst (λ (ys : List DraftItem). Passes (item_lines l kept) (FillsFiles l) all ys done) left (so.passes l e) in
+          let passes : IsPass (item_lines l kept) (FillsFiles l) all (x ∷ rest) done =
+          subst (λ (ys : List DraftItem). IsPass (item_lines l kept) (FillsFiles l) all ys done) left (so.passes l e) in
           let said = c.in_ok-item.ensures.staged l (so.content ∙ e) in
-          subst (λ (ys : List Item). Passes (item_lines l kept) (FillsFiles l) all rest ys) more
+          subst (λ (ys : List Item). IsPass (item_lines l kept) (FillsFiles l) all rest ys) more
           (passes_more (item_lines l kept) (FillsFiles l) all x rest done made passes said.0 said.1);
     }
 
@@ -207,9 +207,9 @@ returns-clause-fills g c =
     let done = map item_view c.loop-draft.items.items in
     let none : map draft_item_view (into_iter_items c.loop-draft.draft-iterator) ≡ [] =
     ap (map draft_item_view) (none_left (into_iter_items c.loop-draft.draft-iterator) (omega (arith, c.in-None.ensures.steps.0))) in
-    let passes : Passes no_lines FillsItem all [] done = subst (λ (ys : List DraftItem). Passes no_lines FillsItem all ys done) none
+    let passes : IsPass no_lines ItemFilled all [] done = subst (λ (ys : List DraftItem). IsPass no_lines ItemFilled all ys done) none
     c.loop-draft.invariant.filled in
-    subst (λ (is : List code.Item). AllZip FillsItem all (map item_view is)) (sym c.new.ensures) (passes_end no_lines FillsItem all done passes).1
+    subst (λ (is : List code.Item). AllZip ItemFilled all (map item_view is)) (sym c.new.ensures) (passes_end no_lines ItemFilled all done passes).1
 
 pub returns-clause-staged : goal.returns-clause-staged
 returns-clause-staged g c = λ l e.
@@ -218,8 +218,8 @@ returns-clause-staged g c = λ l e.
     let done = map item_view c.loop-draft.items.items in
     let none : map draft_item_view (into_iter_items c.loop-draft.draft-iterator) ≡ [] =
     ap (map draft_item_view) (none_left (into_iter_items c.loop-draft.draft-iterator) (omega (arith, c.in-None.ensures.steps.0))) in
-    let passes : Passes (item_lines l kept) (FillsFiles l) all [] done =
-    subst (λ (ys : List DraftItem). Passes (item_lines l kept) (FillsFiles l) all ys done) none (c.loop-draft.invariant.passes l e) in
+    let passes : IsPass (item_lines l kept) (FillsFiles l) all [] done =
+    subst (λ (ys : List DraftItem). IsPass (item_lines l kept) (FillsFiles l) all ys done) none (c.loop-draft.invariant.passes l e) in
     let ended = passes_end (item_lines l kept) (FillsFiles l) all done passes in
     (ended.0, subst (λ (is : List code.Item). AllZip (FillsFiles l) all (map item_view is)) (sym c.new.ensures) ended.1)
 

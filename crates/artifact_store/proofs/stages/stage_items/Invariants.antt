@@ -1,12 +1,12 @@
 use Rattle.std.proofs.Common.{◌≡◌, IsTrue, map, Some}
 use Rattle.std.specs.List.{AllByRecursion, Contains}
 use Rattle.std.specs.Vec.Iter.{into_iter_items}
-use Rattle.disk_model.specs.Disk.{Leaves, After}
-use Rattle.disk_model.specs.Spares.{Spares}
-use Rattle.nuc_base.specs.Tables.{Passes}
+use Rattle.disk_model.specs.Disk.{HasLeft, IsAfter}
+use Rattle.disk_model.specs.Spares.{IsSameBut}
+use Rattle.nuc_base.specs.Tables.{IsPass}
 use Rattle.library_core.specs.Library.{Content}
 use Rattle.records.specs.Stored.{DraftItem, item_view, draft_item_view}
-use Rattle.device.specs.Filled.{FillsItem}
+use Rattle.device.specs.Filled.{ItemFilled}
 use Rattle.artifact_store.specs.Filled.{FillsFiles}
 use Rattle.artifact_store.specs.Holding.{AllHoldItems}
 use Rattle.artifact_store.specs.Paths.{IsNamed, IsNamedDraft}
@@ -18,9 +18,9 @@ abbrev pub invariant-loop-draft : goal.invariant-loop-draft
 invariant-loop-draft g l = record {
   can_next : (goal.iterator-loop-draft g).can_next l.draft-iterator;
   is_finite : (goal.iterator-loop-draft g).is_finite l.draft-iterator;
-  goes : Leaves g.D.Disk.moment g.D.Disk.left_since l.fn.disk l.disk
-      (After (g.D.Disk.may_leave l.fn.disk) (Spares (IsStagedAmong (map item_view l.kept) (map draft_item_view l.fn.drafts))));
-  others : IsTrue g.D.Disk.is_modelled → Spares (IsStagedAmong (map item_view l.kept) (map draft_item_view l.fn.drafts)) (g.D.Disk.seen l.fn.disk)
+  goes : HasLeft g.D.Disk.moment g.D.Disk.left_since l.fn.disk l.disk
+      (IsAfter (g.D.Disk.may_leave l.fn.disk) (IsSameBut (IsStagedAmong (map item_view l.kept) (map draft_item_view l.fn.drafts))));
+  others : IsTrue g.D.Disk.is_modelled → IsSameBut (IsStagedAmong (map item_view l.kept) (map draft_item_view l.fn.drafts)) (g.D.Disk.seen l.fn.disk)
       (g.D.Disk.seen l.disk);
   disk_faults : g.D.Disk.faults l.disk ≡ g.D.Disk.faults l.fn.disk;
   content : g.L.Library.content l.library ≡ g.L.Library.content l.fn.library;
@@ -34,8 +34,8 @@ invariant-loop-draft g l = record {
   named : AllByRecursion IsNamed (map item_view l.items.items);
   kept : AllHoldItems (g.D.Disk.may_leave l.fn.disk) (map item_view l.kept) → AllHoldItems (g.D.Disk.may_leave l.disk) (map item_view l.kept);
   held : AllHoldItems (g.D.Disk.may_leave l.fn.disk) (map item_view l.kept) → AllHoldItems (g.D.Disk.may_leave l.disk) (map item_view l.items.items);
-  filled : Passes no_lines FillsItem (map draft_item_view l.fn.drafts) (map draft_item_view (into_iter_items l.draft-iterator)) (map item_view l.items.items);
+  filled : IsPass no_lines ItemFilled (map draft_item_view l.fn.drafts) (map draft_item_view (into_iter_items l.draft-iterator)) (map item_view l.items.items);
   passes : (c : Content) → g.L.Library.content l.fn.library ≡ Some c →
-      Passes (item_lines c (map item_view l.kept)) (FillsFiles c) (map draft_item_view l.fn.drafts) (map draft_item_view (into_iter_items l.draft-iterator))
+      IsPass (item_lines c (map item_view l.kept)) (FillsFiles c) (map draft_item_view l.fn.drafts) (map draft_item_view (into_iter_items l.draft-iterator))
       (map item_view l.items.items);
 }

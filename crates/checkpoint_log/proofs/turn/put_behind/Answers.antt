@@ -1,6 +1,6 @@
 use Rattle.std.proofs.Common.{ℕ, List, ◌+◌, length, ap, subst, arith}
 use Rattle.std.proofs.lemmas.Result.{on_ok_weaker}
-use Rattle.disk_model.specs.Disk.{Holds, Step}
+use Rattle.disk_model.specs.Disk.{IsPutAt, Step}
 use Rattle.checkpoint_log.proofs.Opened.{put_long, head_long, entry_on}
 use Rattle.checkpoint_log.proofs.Turning.{keeps_more}
 use Rattle.checkpoint_log.proofs.turn.put_behind.Goals as goal
@@ -30,7 +30,7 @@ returns-clause-moments g c =
 
 pub returns-clause-written : goal.returns-clause-written
 returns-clause-written g c told payloads put =
-    let head = (subst (λ (h : List ℕ). Step c.args.file.now (Holds (c.args.end + 1) h) (g.D.Disk.seen c.gate_behind.new.disk)
+    let head = (subst (λ (h : List ℕ). Step c.args.file.now (IsPutAt (c.args.end + 1) h) (g.D.Disk.seen c.gate_behind.new.disk)
     (g.D.Disk.seen c.write_at.new.self)) c.to_be_bytes.ensures (c.in_ok-write_at.ensures.told told)).here in
     on_ok_weaker c.write_at-2.result
     (λ body. entry_on _ _ _ c.args.end payloads c.args.payload.now c.requires.some c.requires.fits (c.in_ok-gate_behind.ensures.written told payloads put)

@@ -1,6 +1,6 @@
 use Rattle.std.proofs.Common.{◌≡◌, ◌<◌, List, Option, length, get_or, map, subst, sym}
 use Rattle.std.proofs.lemmas.Result.{IfOk-weaker}
-use Rattle.recipe_reader.specs.OneRecipe.{Reads}
+use Rattle.recipe_reader.specs.OneRecipe.{IsRecipeFor}
 use Rattle.recipe_reader.specs.declared.recipe.StepDef.{StepDef}
 use Rattle.records.specs.Stored.{item_view}
 use Rattle.records.specs.declared.record.Item as code
@@ -28,7 +28,7 @@ returns c =
     let x = c.index-items-at.result in
     let is = subst (λ (xs : List code.Item). x ≡ get_or xs c.args.at x) c.as_slice-items.ensures c.index-items-at.is in
     let there = item_there items c.args.at x (place_below c.args.origin.now items c.args.at c.requires.recipe) is in
-    let reads = subst (λ bs. Reads bs c.args.origin.now.platform c.in_ok-recipe.recipe) c.as_slice.ensures c.in_ok-recipe.ensures in
+    let reads = subst (λ bs. IsRecipeFor bs c.args.origin.now.platform c.in_ok-recipe.recipe) c.as_slice.ensures c.in_ok-recipe.ensures in
     let scope = c.in_ok-scope.scope in
     IfOk-weaker c.prepare_step.result _ (IsStepAt c.args.origin.now (map item_view items) c.args.at c.args.step)
     (λ made h. step_made c.recipe_laws.ensures.one_recipe c.args.origin.now items c.args.at x there c.in_ok-recipe.recipe reads scope c.in_ok-scope.ensures

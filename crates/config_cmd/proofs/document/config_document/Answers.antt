@@ -1,7 +1,7 @@
 use Rattle.std.proofs.Common.{List, map, sym, ap, subst, ◌∙◌}
 use Rattle.records.specs.declared.record.Requirement.{Requirement}
 use Rattle.deployment_doc.specs.Sound.{AreSound}
-use Rattle.device.specs.Plans.{AreRequirements, Rise, requirement_name}
+use Rattle.device.specs.Plans.{AreRequirements, AreRising, requirement_name}
 use Rattle.config_cmd.specs.Documents.{root_for}
 use Rattle.config_cmd.proofs.Finding.{group_sound}
 use Rattle.config_cmd.proofs.Rooting.{roots_sound}
@@ -11,7 +11,7 @@ pub roots_for-requires : goal.roots_for-requires
 roots_for-requires c =
     let are : AreRequirements c.in-Some.group.now.requirements = group_sound c.args.name.now c.args.device.now.groups.list c.in-Some.group.now
     c.requires.sound.groups.requirements c.in-Some.ensures in
-    subst (λ (l : List Requirement). Rise (map requirement_name l)) (sym c.as_slice-2.ensures) are.rise
+    subst (λ (l : List Requirement). AreRising (map requirement_name l)) (sym c.as_slice-2.ensures) are.rise
 
 pub returns-clause-sound : goal.returns-clause-sound
 returns-clause-sound c =

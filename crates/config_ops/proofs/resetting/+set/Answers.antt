@@ -36,11 +36,11 @@ set_node-returns t c =
     let node = c.in_ok-node.node in
     let one = one_field k node in
     let new = option_map view c.args.new in
-    let front = c.move_before.new.done.items in
+    let prefix = c.move_before.new.done.items in
     let orderly : MembersAreOrderly (fields_view rest) = subst (λ fs. MembersAreOrderly (fields_view fs)) (sym c.from_vec-rest.ensures.items) c.requires in
     let found = found_is k rest c.move_before.new.rest.items later popped.result popped.ensures.some popped.ensures.none c.in_ok-move_before.ensures.rest in
     let value = c.in_ok-node.ensures ∙ ap (node_at c.args.below.now new) c.in_ok-name.ensures.1 in
-    let pushed = c.in_ok-push_node.ensures ∙ ap (λ n. front ++ one_field n node) c.in_ok-name.ensures.0 in
+    let pushed = c.in_ok-push_node.ensures ∙ ap (λ n. prefix ++ one_field n node) c.in_ok-name.ensures.0 in
     ap fields_view (c.in_ok-move_all.ensures ∙ ap (λ fs. fs ++ later) (pushed ∙ ap (λ fs. fs ++ one) (c.in_ok-move_before.ensures.done
     ∙ ap (λ fs. fs ++ fields_before k rest) c.in_ok-done.ensures.items)))
     ∙ set_done k c.args.below.now rest popped.result later new node orderly found value

@@ -3,7 +3,7 @@ use Rattle.std.specs.List.{Contains}
 use Rattle.std.specs.List.Sorted.{IsStrictlyIncreasing}
 use Rattle.std.proofs.lemmas.List.Sorted.{IsNonDecreasingBy-from_sort, IsPermutation-sym, Contains-permutation}
 use Rattle.std.proofs.lemmas.Map.Keys.{IsDistinct-IsPermutation, IsStrictlyIncreasing-from_distinct}
-use Rattle.nuc_base.specs.Leads.{Leads}
+use Rattle.nuc_base.specs.Leads.{HasPath}
 use Rattle.nuc_base.proofs.Lists.{eqb_flips}
 use Rattle.dep_order.specs.Orders.{NeedsHard}
 use Rattle.dep_order.proofs.HardRows.{found_from}
@@ -23,8 +23,8 @@ returns-clause-exact c = λ p.
     let moved = c.sort_unstable.ensures.permutation in
     let list = c.in_ok-found.found.list.items in
     let sorted = c.sort_unstable.new.self.items in
-    let exact : Contains sorted p ↔ Leads (NeedsHard c.args.edges.now) p c.args.of = (
+    let exact : Contains sorted p ↔ HasPath (NeedsHard c.args.edges.now) p c.args.of = (
       λ i. c.in_ok-found.ensures.found p (Contains-permutation sorted list p (IsPermutation-sym list sorted moved) i),
       λ r. Contains-permutation list sorted p moved (found_from c.args.edges.now c.args.of list c.in_ok-found.ensures.closed r refl),
     ) in
-    subst (λ l. Contains l p ↔ Leads (NeedsHard c.args.edges.now) p c.args.of) (sym c.new.ensures) exact
+    subst (λ l. Contains l p ↔ HasPath (NeedsHard c.args.edges.now) p c.args.of) (sym c.new.ensures) exact

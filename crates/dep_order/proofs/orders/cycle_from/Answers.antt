@@ -1,7 +1,7 @@
 use Rattle.std.proofs.Common.{None, Some, MatchOption, ◌≡◌, ◌<◌, ◌∷◌, [], length, length-append, drop, get_or, arith, subst, sym, ap, ◌∙◌}
 use Rattle.std.specs.List.{Contains}
 use Rattle.std.proofs.lemmas.List.{get_or_default}
-use Rattle.dep_order.specs.Orders.{Needs, IsReady, AreLinked, IsCycle}
+use Rattle.dep_order.specs.Orders.{HasNeed, IsReady, AreLinked, IsCycle}
 use Rattle.dep_order.proofs.Marked.{tidy_length}
 use Rattle.dep_order.proofs.Counted.{not_added, is_added}
 use Rattle.dep_order.proofs.Cycles.{needs_nodes, linked_push, cycle_at}
@@ -24,7 +24,7 @@ unreachable-requires c =
     let taken = c.args.taken.now.list.items in
     let lt : place < length next = omega (arith, c.loop-way.invariant.node, c.in_ok-next_of.ensures.count) in
     let at : get_or next place None ≡ None = sym (c.index.ensures ∙ get_or_default next place c.index.result.now None lt) ∙ c.in_default.is in
-    let ready = subst (λ o. MatchOption o (IsReady c.args.edges.now taken place) (λ q. Needs c.args.edges.now place q ×
+    let ready = subst (λ o. MatchOption o (IsReady c.args.edges.now taken place) (λ q. HasNeed c.args.edges.now place q ×
     (Contains taken q → ⊥))) at (c.in_ok-next_of.ensures.each place) in
     c.requires.stuck place (record { node = c.loop-way.invariant.node; untaken = c.loop-way.invariant.untaken; ready = ready })
 
@@ -42,7 +42,7 @@ loop-way-preserved c =
     let taken = c.args.taken.now.list.items in
     let lt : place < length next = omega (arith, c.loop-way.invariant.node, c.in_ok-next_of.ensures.count) in
     let at : get_or next place None ≡ Some c.in-Some.next = sym (c.index.ensures ∙ get_or_default next place c.index.result.now None lt) ∙ c.in-Some.is in
-    let step = subst (λ o. MatchOption o (IsReady edges taken place) (λ q. Needs edges place q ×
+    let step = subst (λ o. MatchOption o (IsReady edges taken place) (λ q. HasNeed edges place q ×
     (Contains taken q → ⊥))) at (c.in_ok-next_of.ensures.each place) in
     let new = is_added _ _ c.in_ok-added.added c.if-not-added.false c.in_ok-added.ensures.list in
     let nodes = needs_nodes edges place c.in-Some.next c.requires.nodes step.0 in

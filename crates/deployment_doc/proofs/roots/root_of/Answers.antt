@@ -1,5 +1,5 @@
 use Rattle.std.proofs.Common.{◌++◌, subst, ◌∙◌, ◌≡◌, List, ℕ}
-use Rattle.nuc_base.specs.Tables.{AllHold, Table, Faults}
+use Rattle.nuc_base.specs.Tables.{AllHold, Table, IsFaultBy}
 use Rattle.nuc_base.proofs.Tables.{handed_on, fault_after, fault_before}
 use Rattle.nuc_base.specs.Names.{IsName}
 use Rattle.tree_core.specs.View.{view}
@@ -22,8 +22,8 @@ returns-in_err-range c =
     let f = c.in_err-range.field-0.0 in
     let below : Table DocFault = at_required ComponentVersion d (range_lines c.args.name.now) in
     let same : c.in-Ok.name ≡ c.args.name.now = c.in-Ok.ensures.0 ∙ c.as_bytes.ensures.value ∙ c.as_str.ensures in
-    let here : Faults NoMemory below f =
-    subst (λ (n : List ℕ). Faults NoMemory (at_required ComponentVersion d (range_lines n)) f) same c.in_err-range.ensures in
+    let here : IsFaultBy NoMemory below f =
+    subst (λ (n : List ℕ). IsFaultBy NoMemory (at_required ComponentVersion d (range_lines n)) f) same c.in_err-range.ensures in
     let last : Table DocFault = at_optional ConfigurationUpdate d (update_lines c.args.name.now) in
     handed_on NoMemory (above ++ below ++ last) (IsRoot (c.args.name.now, d)) _ f c.from_residual.ensures.1
     (fault_before NoMemory (above ++ below) last f (fault_after NoMemory above below f holds here))

@@ -4,7 +4,7 @@ use Rattle.std.specs.List.{AllZip}
 use Rattle.serde_json.specs.Data.{Data}
 use Rattle.tree_core.specs.View.{view, field_view}
 use Rattle.nuc_base.proofs.Tables.{answers_after}
-use Rattle.nuc_base.specs.Tables.{Answers, each}
+use Rattle.nuc_base.specs.Tables.{AnswerBy, each}
 use Rattle.tree_core.specs.Parts.{members, IsObject, check}
 use Rattle.deployment_doc.specs.Lines.{component_lines}
 use Rattle.deployment_doc.specs.Named.{IsRoot}
@@ -27,9 +27,10 @@ returns c =
     let long : length (members (view c.args.components.now)) ≡ length c.in-Fields.fields.items = ap length all
     ∙ length-map c.in-Fields.fields.items field_view in
     let short : length (members (view c.args.components.now)) ≤ 128 = omega arith in
-    let whole : Answers NoMemory (each component_lines (members (view c.args.components.now))) (AllZip IsRoot (members (view c.args.components.now)))
+    let whole : AnswerBy NoMemory (each component_lines (members (view c.args.components.now))) (AllZip IsRoot (members (view c.args.components.now)))
     c.roots_among.result =
-    subst (λ (ms : List (List ℕ × Data)). Answers NoMemory (each component_lines ms) (AllZip IsRoot ms) c.roots_among.result) (sym all) c.roots_among.ensures in
+    subst (λ (ms : List (List ℕ × Data)). AnswerBy NoMemory (each component_lines ms) (AllZip IsRoot ms) c.roots_among.result)
+    (sym all) c.roots_among.ensures in
     answers_after NoMemory (check (IsObject (view c.args.components.now)) (WrongKind Components)
     ++ check (length (members (view c.args.components.now)) ≤ 128) (TooMany Components))
     (each component_lines (members (view c.args.components.now)))

@@ -4,7 +4,7 @@ use Rattle.tree_core.specs.View.{view}
 use Rattle.tree_core.specs.Parts.{IsObject}
 use Rattle.tree_core.specs.Regular.{IsRegular}
 use Rattle.tree_core.proofs.Seen.{is_object, seen_text}
-use Rattle.deployment_doc.specs.Lines.{Merges}
+use Rattle.deployment_doc.specs.Lines.{IsMergeObject}
 use Rattle.deployment_doc.proofs.Merging.{merge_text}
 use Rattle.deployment_doc.proofs.update.merge_in.Goals as goal
 
@@ -14,7 +14,7 @@ returns-in_ok-copy-in-Fields c =
     let copy = view c.in_ok-copy-in-Fields.field-0 in
     let same : copy ≡ v = c.in_ok-copy-in-Fields.ensures in
     let object : IsObject v = is_object _ c.in-Fields.field-0 c.in-Fields.is in
-    let merges : Merges v copy = (subst IsObject (sym same) object, inl (sym same)) in
+    let merges : IsMergeObject v copy = (subst IsObject (sym same) object, inl (sym same)) in
     (((copy, merges), tt), (merges, subst IsRegular (sym same) c.requires))
 
 pub returns-in-Text : goal.returns-in-Text

@@ -9,7 +9,7 @@ use Rattle.records.specs.Stored.{record_view}
 use Rattle.device.specs.Devices.{Device}
 use Rattle.device.specs.Sound.{IsSound}
 use Rattle.device.proofs.Sounding.{none_sound}
-use Rattle.device.specs.Rebuilt.{building_view, Began}
+use Rattle.device.specs.Rebuilt.{building_view, BeginOutcome}
 use Rattle.device.specs.Standing.{BeginsAt, IsTurn, TurnOf}
 use Rattle.device.proofs.Begun.{begins_empty, begins_plain, begins_anew, first_lacks, has_first, first_at}
 use Rattle.device.proofs.Walking.{walks_first}
@@ -84,7 +84,7 @@ returns-in-Err-NotSound-clause-told g c told payloads stands =
     let read = c.in_ok-payload.ensures.told told a.first (first_at g.J.Journal.stands c.args.log.now image payloads a stands) in
     let same = c.as_slice.ensures ∙ read.0 in
     let r = record_view c.in-Ok-Some.entry in
-    let bad = subst (λ f. Began r (Err f)) c.in-Err-NotSound.field-0-is c.in-Err-NotSound.ensures.began in
+    let bad = subst (λ f. BeginOutcome r (Err f)) c.in-Err-NotSound.field-0-is c.in-Err-NotSound.ensures.began in
     first_lacks payloads a r (subst IsTurn same turned.0) (subst (λ (p : List ℕ). Spelled p r) same turned.1) bad
 
 pub returns-in-Ok-None-clause-sound : goal.returns-in-Ok-None-clause-sound

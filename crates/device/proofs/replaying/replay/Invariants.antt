@@ -1,5 +1,5 @@
 use Rattle.std.proofs.Common.{◌≡◌, ◌-◌, ℕ, List, IsTrue}
-use Rattle.disk_model.specs.Disk.{Leaves}
+use Rattle.disk_model.specs.Disk.{HasLeft}
 use Rattle.device.specs.Devices.{device_view, IsRegularDevice}
 use Rattle.device.specs.Sound.{IsSound}
 use Rattle.device.proofs.Marching.{Reached}
@@ -8,7 +8,7 @@ use Rattle.device.proofs.replaying.replay.Given as goal
 
 abbrev pub invariant-loop-at : goal.invariant-loop-at
 invariant-loop-at g l = record {
-  goes : Leaves g.D.Disk.moment g.D.Disk.left_since l.fn.disk l.disk (g.D.Disk.may_leave l.fn.disk);
+  goes : HasLeft g.D.Disk.moment g.D.Disk.left_since l.fn.disk l.disk (g.D.Disk.may_leave l.fn.disk);
   seen : g.D.Disk.seen l.disk ≡ g.D.Disk.seen l.fn.disk;
   faults : g.D.Disk.faults l.disk ≡ g.D.Disk.faults l.fn.disk;
   regular : IsRegularDevice (device_view l.device);

@@ -4,7 +4,7 @@ use Rattle.std.proofs.lemmas.Result.{err_from_is_err_and}
 use Rattle.disk_model.specs.Disk.{Image}
 use Rattle.disk_model.specs.Moments.{then_same, at_start}
 use Rattle.gate_log.specs.Place.{IsEntryAt}
-use Rattle.device.specs.Rebuilt.{building_view, Finished}
+use Rattle.device.specs.Rebuilt.{building_view, FinishOutcome}
 use Rattle.device.proofs.Walking.{ahead, walks_at, walked_on, entry_fault, front_taken, stops}
 use Rattle.device.proofs.replaying.take_front.Goals as goal
 use Rattle.device.proofs.replaying.take_front.Goals.{then-loop-building-test+else-at-end, else-loop-building-test}
@@ -78,7 +78,7 @@ returns-in-Ok-clause-told g c told payloads stands =
 pub returns-in-Err-NotSound-clause-told : goal.returns-in-Err-NotSound-clause-told
 returns-in-Err-NotSound-clause-told g c told payloads stands =
     let b = building_view c.loop-building.building in
-    let bad = subst (λ f. Finished b (Err f)) c.in-Err-NotSound.field-0-is c.in-Err-NotSound.ensures.finished in
+    let bad = subst (λ f. FinishOutcome b (Err f)) c.in-Err-NotSound.field-0-is c.in-Err-NotSound.ensures.finished in
     let end : (0 < b.groups_to_come + b.items_to_come + b.closed_to_come → ⊥) ⊎ (c.end-end.result ≤ c.loop-building.at) = elim c.loop-building-test.branch [
       | then-loop-building-test+else-at-end w ↦ inr w.if-at-end.false
       | else-loop-building-test w ↦ inl (λ lt. false≢true (sym w.loop-building-test.false ∙ c.lacks_some.ensures.1 lt))

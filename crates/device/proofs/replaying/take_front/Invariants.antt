@@ -1,12 +1,12 @@
 use Rattle.std.proofs.Common.{◌≡◌, ◌-◌, ℕ, List, IsTrue}
-use Rattle.disk_model.specs.Disk.{Leaves}
+use Rattle.disk_model.specs.Disk.{HasLeft}
 use Rattle.device.specs.Rebuilt.{building_view, IsOrderly}
 use Rattle.device.specs.Standing.{Walked}
 use Rattle.device.proofs.replaying.take_front.Given as goal
 
 abbrev pub invariant-loop-building : goal.invariant-loop-building
 invariant-loop-building g l = record {
-  goes : Leaves g.D.Disk.moment g.D.Disk.left_since l.fn.disk l.disk (g.D.Disk.may_leave l.fn.disk);
+  goes : HasLeft g.D.Disk.moment g.D.Disk.left_since l.fn.disk l.disk (g.D.Disk.may_leave l.fn.disk);
   seen : g.D.Disk.seen l.disk ≡ g.D.Disk.seen l.fn.disk;
   faults : g.D.Disk.faults l.disk ≡ g.D.Disk.faults l.fn.disk;
   orderly : IsOrderly (building_view l.building);

@@ -11,8 +11,8 @@ use Rattle.device.proofs.steps.go_back.Goals as goal
 pub has_flag-requires : goal.has_flag-requires
 has_flag-requires c = is_there (failing_name (pending_view c.args.pending.now)) c.args.name.now (c.if-not-may_break.ensures.0 refl).1
 
-pub turn_back-requires : goal.turn_back-requires
-turn_back-requires c = is_there (failing_name (pending_view c.args.pending.now)) c.args.name.now (c.if-not-may_break.ensures.0 refl).1
+pub send_back-requires : goal.send_back-requires
+send_back-requires c = is_there (failing_name (pending_view c.args.pending.now)) c.args.name.now (c.if-not-may_break.ensures.0 refl).1
 
 pub returns-then-not-has_flag : goal.returns-then-not-has_flag
 returns-then-not-has_flag c =
@@ -35,6 +35,6 @@ returns c =
     let flags = c.tell_backs.new.flags in
     let here : c.in_ok-are_told.are_told ≡ true = search rules in
     let told = subst (TellBacks o.platform set names flags) here c.in_ok-are_told.ensures in
-    went_back c.args.origin.now o set (pending_view c.args.pending.now) (pending_view c.turn_back.new.pending) c.args.name.now flags names c.in-Some.is
+    went_back c.args.origin.now o set (pending_view c.args.pending.now) (pending_view c.send_back.new.pending) c.args.name.now flags names c.in-Some.is
     c.as_slice.ensures
-    (c.if-not-may_break.ensures.0 refl) told (c.if-not-has_flag.ensures.0 refl) c.turn_back.ensures
+    (c.if-not-may_break.ensures.0 refl) told (c.if-not-has_flag.ensures.0 refl) c.send_back.ensures

@@ -9,8 +9,8 @@ pub returns : goal.returns
 returns c =
     let name = c.args.name.now in
     let folder = c.args.folder.now in
-    let front = take (length folder) name in
-    let test = slice_eq-Decides Decides-eqb folder front c.starts_with.result
+    let prefix = take (length folder) name in
+    let test = slice_eq-Decides Decides-eqb folder prefix c.starts_with.result
     (c.starts_with.ensures.value ∙ ap (λ (l : List ℕ). starts_with nat_eq l c.as_bytes-2.result.now) c.as_bytes.ensures.value ∙ ap
     (λ (l : List ℕ). starts_with nat_eq name l) c.as_bytes-2.ensures.value) in (
       λ yes. (drop (length folder) name, sym (take-append-drop (length folder) name) ∙ ap (λ (l : List ℕ). l ++ drop (length folder) name) (sym (test.0 yes))),

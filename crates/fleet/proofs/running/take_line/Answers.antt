@@ -28,8 +28,8 @@ returns-clause-goes g c past stands lines =
     let written : IsWritten c.args.line.now c.in-Ok-Some.happening = rw c.in-Ok-Some.field-0-is at c.in-Ok-Some.ensures in
     let step = c.in-Ok.ensures.steps past stands in
     let text : c.as_bytes.result.now ≡ shown c.in-Ok.reply = c.as_bytes.ensures.value ∙ c.as_str.ensures ∙ c.in-Ok-reply_text.ensures in
-    let front = subst (λ (l : List ℕ). WritesInPart (g.K.Sink.held c.args.sink.now) (g.K.Sink.held c.write_all.new.sink) l) text
+    let prefix = subst (λ (l : List ℕ). WritesInPart (g.K.Sink.held c.args.sink.now) (g.K.Sink.held c.write_all.new.sink) l) text
     c.in-Err-write_all.ensures.bytes in
     cut_off (device_count c.args.fleet.now) c.args.number past (record { text = c.args.line.now; is_ended = true }) step.0 c.in-Ok.reply
     (stream_of g.K.Sink.held g.K.Sink.faults c.args.sink.now c.write_all.new.sink)
-    (c.in-Ok-Some.happening, (refl, written), step.1) step.2 c.in-Err-write_all.ensures.cause.failed front lines
+    (c.in-Ok-Some.happening, (refl, written), step.1) step.2 c.in-Err-write_all.ensures.cause.failed prefix lines

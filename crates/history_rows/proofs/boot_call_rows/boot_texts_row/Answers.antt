@@ -16,7 +16,7 @@ only : (r : Recipes) (at : ℕ) (i : Item) → slice_get (read_as r (item_a ∷ 
 only r at i is = let within = slice_get_within (read_as r (item_a ∷ [])) at i is in omega (arith, within)
 
 names : (x i : Item) → Some x ≡ Some i → Some b ≡ Some i.name → b ≡ x.name
-names x i is turn = cc
+names x i is is_next = cc
 
 no : true ≡ false → ⊥
 no e = cc
@@ -25,9 +25,9 @@ other : b ≡ a → ⊥
 other e = no (subst (λ x. bytes_eq x a ≡ false) e refl)
 
 second : (r : Recipes) (at : ℕ) (i : Item) → slice_get (read_as r both) at ≡ Some i → Some b ≡ Some i.name → at ≡ 1
-second r zero i is turn = absurd (other (names (record item_a { recipe = r item_a }) i is turn))
-second r (suc zero) i is turn = refl
-second r (suc (suc n)) i is turn = let within = slice_get_within (read_as r both) (suc (suc n)) i is in absurd (omega (arith, within))
+second r zero i is is_next = absurd (other (names (record item_a { recipe = r item_a }) i is is_next))
+second r (suc zero) i is is_next = refl
+second r (suc (suc n)) i is is_next = let within = slice_get_within (read_as r both) (suc (suc n)) i is in absurd (omega (arith, within))
 
 pub returns-clause-newer : goal.returns-clause-newer
 returns-clause-newer c = λ o r command no may.
@@ -39,4 +39,4 @@ pub returns-clause-earlier : goal.returns-clause-earlier
 returns-clause-earlier c = λ o r command no may.
     let m = may.0.0.0 in
     no (subst (λ x. IsStepAt x (read_as r both) 1 step.Bootstrap (Some (boot_of command))) (same o m.origin m.of_device)
-    (subst (λ k. IsStepAt m.origin (read_as r both) k step.Bootstrap (Some (boot_of command))) (second r m.at m.item m.there m.turn) m.prepared))
+    (subst (λ k. IsStepAt m.origin (read_as r both) k step.Bootstrap (Some (boot_of command))) (second r m.at m.item m.there m.next) m.prepared))

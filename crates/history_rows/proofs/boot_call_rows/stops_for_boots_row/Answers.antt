@@ -16,10 +16,10 @@ returns-clause-boots c = λ o r command s. (
           item =
               record item_a { recipe = r item_a };
           there = refl;
-          turn = refl;
+          next = refl;
           prepared = s;
           stopped = refl;
-          told = refl;
+          owes_none = refl;
           alone = refl;
           no_end = refl;
         },

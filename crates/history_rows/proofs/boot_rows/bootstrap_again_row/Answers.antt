@@ -19,11 +19,11 @@ returns-clause-again c = λ o r command s. (
               at = 0;
               item = record item_a { recipe = r item_a };
               there = refl;
-              turn =
+              next =
                   refl;
               prepared = s;
               stopped = refl;
-              told = refl;
+              owes_none = refl;
               alone = refl;
               no_end = refl;
             },

@@ -25,10 +25,10 @@ returns-clause-fails c = λ o r command s. (
                 item = record newer_a { recipe = r newer_a };
                 there =
                     refl;
-                turn = refl;
+                next = refl;
                 prepared = s;
                 stopped = refl;
-                told = refl;
+                owes_none = refl;
                 alone = refl;
                 no_end = refl;
               },
@@ -62,11 +62,11 @@ returns-clause-backs c = λ o r command s. (
               at = 0;
               item = record item_a { recipe = r item_a };
               there = refl;
-              turn =
+              next =
                   refl;
               prepared = s;
               stopped = refl;
-              told = refl;
+              owes_none = refl;
               alone = refl;
               no_end = refl;
             },
@@ -102,10 +102,10 @@ returns-clause-unable c = λ o r command s. (
                 item = record item_a { recipe = r item_a };
                 there =
                     refl;
-                turn = refl;
+                next = refl;
                 prepared = s;
                 stopped = refl;
-                told = refl;
+                owes_none = refl;
                 alone = refl;
                 no_end = refl;
               },

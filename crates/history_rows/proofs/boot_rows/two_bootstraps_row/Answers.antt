@@ -19,11 +19,11 @@ returns-clause-first c = λ o r command s. (
               at = 0;
               item = record item_a { recipe = r item_a };
               there = refl;
-              turn =
+              next =
                   refl;
               prepared = s;
               stopped = refl;
-              told = refl;
+              owes_none = refl;
               alone = refl;
               no_end = refl;
             },
@@ -56,11 +56,11 @@ returns-clause-second c = λ o r command s. (
               at = 1;
               item = record item_b { recipe = r item_b };
               there = refl;
-              turn =
+              next =
                   refl;
               prepared = s;
               stopped = refl;
-              told = refl;
+              owes_none = refl;
               alone = refl;
               no_end = refl;
             },
@@ -98,10 +98,10 @@ returns-clause-long c = λ o r command s. (
                   item =
                       record item_a { recipe = r item_a };
                   there = refl;
-                  turn = refl;
+                  next = refl;
                   prepared = s;
                   stopped = refl;
-                  told = refl;
+                  owes_none = refl;
                   alone = refl;
                   no_end = refl;
                 },
@@ -134,11 +134,11 @@ returns-clause-skipped c = λ o r word command s. (
             at = 0;
             item = record item_a { recipe = r item_a };
             there = refl;
-            turn =
+            next =
                 refl;
             prepared = s;
             stopped = refl;
-            told = refl;
+            owes_none = refl;
             alone = refl;
             no_end = refl;
           },
@@ -167,10 +167,10 @@ returns-clause-probed c = λ o r word command s. (
           item =
               record item_a { recipe = r item_a };
           there = refl;
-          turn = refl;
+          next = refl;
           prepared = s;
           stopped = refl;
-          told = refl;
+          owes_none = refl;
           alone = refl;
           no_end = refl;
         },
@@ -193,11 +193,11 @@ returns-clause-probed c = λ o r word command s. (
             at = 0;
             item = record item_a { recipe = r item_a };
             there = refl;
-            turn =
+            next =
                 refl;
             prepared = s;
             stopped = refl;
-            told = refl;
+            owes_none = refl;
             alone = refl;
             no_end = refl;
           },
@@ -228,10 +228,10 @@ returns-clause-refused c = λ o r command s. (
             item =
                 record item_a { recipe = r item_a };
             there = refl;
-            turn = refl;
+            next = refl;
             prepared = s;
             stopped = refl;
-            told = refl;
+            owes_none = refl;
             alone = refl;
             no_end = refl;
           },

@@ -1,7 +1,7 @@
 use Rattle.std.proofs.Common.{◌++◌, ◌∷◌, [], ap, ◌∙◌, append_assoc}
 use Rattle.std.proofs.lemmas.Result.{on_ok_weaker}
 use Rattle.interpolation.specs.Values.{replaced}
-use Rattle.interpolation.proofs.Cuttings.{front_ended, front_plain}
+use Rattle.interpolation.proofs.Cuttings.{prefix_ended, prefix_plain}
 use Rattle.interpolation.proofs.expansion.push_piece.Goals as goal
 
 pub returns-in_ok-push_str-in-Some : goal.returns-in_ok-push_str-in-Some
@@ -13,7 +13,7 @@ returns-in_ok-push_str-in-Some c =
       plain ++ replaced c.args.scope.now word,
       more ∙ ap (λ l. l ++ replaced c.args.scope.now word) c.in_ok-push_str-in-Some.ensures.ok
           ∙ append_assoc c.args.expanded.now plain (replaced c.args.scope.now word),
-      front_ended c.args.scope.now c.args.piece.now plain word c.requires.piece c.in-Some.ensures,
+      prefix_ended c.args.scope.now c.args.piece.now plain word c.requires.piece c.in-Some.ensures,
     ))
     c.push_variable.ensures
 
@@ -24,6 +24,6 @@ returns-in_ok-push_str-in-None c =
     (λ more. (
       piece ++ (125 ∷ []),
       more ∙ ap (λ l. l ++ (125 ∷ [])) c.in_ok-push_str-in-None.ensures.ok ∙ append_assoc c.args.expanded.now piece (125 ∷ []),
-      front_plain c.args.scope.now piece c.requires.piece c.in-None.ensures,
+      prefix_plain c.args.scope.now piece c.requires.piece c.in-None.ensures,
     ))
     c.push_str-in-None-2.ensures.ok

@@ -1,6 +1,6 @@
 use Rattle.law_histories.proofs.BootEnds.{boots_ended}
 use Rattle.law_histories.proofs.StepEnds.{failures_ended}
-use Rattle.law_histories.proofs.Standing.{records_stand, turns_plain}
+use Rattle.law_histories.proofs.Standing.{records_stand, rollbacks_plain}
 use Rattle.law_histories.proofs.Turning.{closes_caused, runs_close_caused}
 use Rattle.law_histories.proofs.laws.rollbacks_are_caused.Goals as goal
 
@@ -20,4 +20,4 @@ pub returns-clause-runs : goal.returns-clause-runs
 returns-clause-runs c = runs_close_caused
 
 pub returns-clause-plain : goal.returns-clause-plain
-returns-clause-plain c = turns_plain
+returns-clause-plain c = rollbacks_plain

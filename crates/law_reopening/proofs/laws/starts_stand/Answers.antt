@@ -2,8 +2,8 @@ use Rattle.law_reopening.proofs.Left.{boot_starts_stand, failures_stand, starts_
 use Rattle.law_reopening.proofs.Owed.{failures_told}
 use Rattle.law_reopening.proofs.laws.starts_stand.Goals as goal
 
-pub returns-clause-told : goal.returns-clause-told
-returns-clause-told g c = failures_told
+pub returns-clause-recorded : goal.returns-clause-recorded
+returns-clause-recorded g c = failures_told
 
 pub returns-clause-starts : goal.returns-clause-starts
 returns-clause-starts g c = starts_stand _ _

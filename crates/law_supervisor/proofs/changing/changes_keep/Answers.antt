@@ -7,5 +7,5 @@ returns-clause-keeps c = changed_keeps
 pub returns-clause-owners : goal.returns-clause-owners
 returns-clause-owners c = changed_owns
 
-pub returns-clause-told : goal.returns-clause-told
-returns-clause-told c = changed_told
+pub returns-clause-owes_none : goal.returns-clause-owes_none
+returns-clause-owes_none c = changed_told

@@ -7,5 +7,5 @@ returns-clause-orderly c = steadied_orderly
 pub returns-clause-owners : goal.returns-clause-owners
 returns-clause-owners c = owner_steadied
 
-pub returns-clause-told : goal.returns-clause-told
-returns-clause-told c = told_steadied
+pub returns-clause-owes_none : goal.returns-clause-owes_none
+returns-clause-owes_none c = told_steadied

@@ -7,5 +7,5 @@ returns-clause-keeps c = λ d m w k. record { counted = k.counted; sound = k.sou
 pub returns-clause-owners : goal.returns-clause-owners
 returns-clause-owners c = λ n m w. refl
 
-pub returns-clause-told : goal.returns-clause-told
-returns-clause-told c = λ m w t. t
+pub returns-clause-owes_none : goal.returns-clause-owes_none
+returns-clause-owes_none c = λ m w t. t

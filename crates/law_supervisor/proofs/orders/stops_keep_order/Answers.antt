@@ -7,5 +7,5 @@ returns-clause-orderly c = stopped_orderly
 pub returns-clause-owners : goal.returns-clause-owners
 returns-clause-owners c = stopped_owner
 
-pub returns-clause-told : goal.returns-clause-told
-returns-clause-told c = stopped_told
+pub returns-clause-owes_none : goal.returns-clause-owes_none
+returns-clause-owes_none c = stopped_told

@@ -23,8 +23,8 @@ returns-clause-fails c = failed_keeps
 pub returns-clause-owes : goal.returns-clause-owes
 returns-clause-owes c = failed_owes
 
-pub returns-clause-told : goal.returns-clause-told
-returns-clause-told c = told_keeps_too
+pub returns-clause-heard : goal.returns-clause-heard
+returns-clause-heard c = told_keeps_too
 
 pub returns-clause-empty : goal.returns-clause-empty
 returns-clause-empty c = λ m. refl

@@ -85,30 +85,30 @@ returns-clause-later c = λ m. record {
 
 pub returns-clause-comes_up : goal.returns-clause-comes_up
 returns-clause-comes_up c = λ m. (
-  (record { told = refl; none = refl }, refl),
+  (record { owes_none = refl; none = refl }, refl),
   (
-    (record { told = refl; least = refl }, refl),
+    (record { owes_none = refl; least = refl }, refl),
     (
-      (record { told = refl; least = refl }, refl),
+      (record { owes_none = refl; least = refl }, refl),
       (
-        (record { told = refl; least = refl }, record { begun = refl; new = refl; prepared = refl }, refl),
+        (record { owes_none = refl; least = refl }, record { begun = refl; new = refl; prepared = refl }, refl),
         (
-          (record { told = refl; least = refl }, refl),
+          (record { owes_none = refl; least = refl }, refl),
           (
-            (record { told = refl; least = refl }, refl),
+            (record { owes_none = refl; least = refl }, refl),
             (
-              (record { told = refl; least = refl }, record { begun = refl; new = refl; prepared = refl }, refl),
+              (record { owes_none = refl; least = refl }, record { begun = refl; new = refl; prepared = refl }, refl),
               (
-                (record { told = refl; least = refl }, refl),
+                (record { owes_none = refl; least = refl }, refl),
                 (
-                  (record { told = refl; least = refl }, refl),
+                  (record { owes_none = refl; least = refl }, refl),
                   (
-                    (record { told = refl; least = refl }, record { begun = refl; new = refl; prepared = refl }, refl),
+                    (record { owes_none = refl; least = refl }, record { begun = refl; new = refl; prepared = refl }, refl),
                     (
-                      (record { told = refl; least = refl }, refl),
+                      (record { owes_none = refl; least = refl }, refl),
                       (
-                        (record { told = refl; least = refl }, refl),
-                        ((record { told = refl; least = refl }, record { begun = refl; new = refl; prepared = refl }, refl), tt),
+                        (record { owes_none = refl; least = refl }, refl),
+                        ((record { owes_none = refl; least = refl }, record { begun = refl; new = refl; prepared = refl }, refl), tt),
                       ),
                     ),
                   ),
@@ -124,18 +124,18 @@ returns-clause-comes_up c = λ m. (
 
 pub returns-clause-first_fails : goal.returns-clause-first_fails
 returns-clause-first_fails c = λ m. (
-  (record { told = refl; none = refl }, refl, refl),
+  (record { owes_none = refl; none = refl }, refl, refl),
   (
     (refl, refl, refl),
     (
-      (record { told = refl; least = refl }, refl),
+      (record { owes_none = refl; least = refl }, refl),
       (
-        (record { told = refl; least = refl }, record { begun = refl; new = refl; prepared = refl }, refl),
+        (record { owes_none = refl; least = refl }, record { begun = refl; new = refl; prepared = refl }, refl),
         (
-          (record { told = refl; least = refl }, (refl, refl, refl)),
+          (record { owes_none = refl; least = refl }, (refl, refl, refl)),
           (
             (
-              record { told = refl; least = refl },
+              record { owes_none = refl; least = refl },
               record { begun = refl; new = refl; prepared = refl },
               refl,
             ),
@@ -149,23 +149,23 @@ returns-clause-first_fails c = λ m. (
 
 pub returns-clause-second_fails : goal.returns-clause-second_fails
 returns-clause-second_fails c = λ m. (
-  (record { told = refl; none = refl }, refl, refl),
+  (record { owes_none = refl; none = refl }, refl, refl),
   (
     (refl, refl, refl),
     (
-      (record { told = refl; least = refl }, (refl, refl, refl)),
+      (record { owes_none = refl; least = refl }, (refl, refl, refl)),
       (
         (
-          record { told = refl; least = refl },
+          record { owes_none = refl; least = refl },
           record { begun = refl; new = refl; prepared = refl },
           refl,
         ),
         (
-          (record { told = refl; least = refl }, refl),
+          (record { owes_none = refl; least = refl }, refl),
           (
-            (record { told = refl; least = refl }, refl),
+            (record { owes_none = refl; least = refl }, refl),
             (
-              (record { told = refl; least = refl }, record { begun = refl; new = refl; prepared = refl }, refl),
+              (record { owes_none = refl; least = refl }, record { begun = refl; new = refl; prepared = refl }, refl),
               tt,
             ),
           ),
@@ -177,15 +177,18 @@ returns-clause-second_fails c = λ m. (
 
 pub returns-clause-others_come : goal.returns-clause-others_come
 returns-clause-others_come c = λ m. (
-  (record { told = refl; none = refl }, refl),
+  (record { owes_none = refl; none = refl }, refl),
   (
-    (record { told = refl; least = refl }, refl),
-    ((record { told = refl; least = refl }, refl), ((record { told = refl; least = refl }, record { begun = refl; new = refl; prepared = refl }, refl), tt)),
+    (record { owes_none = refl; least = refl }, refl),
+    (
+      (record { owes_none = refl; least = refl }, refl),
+      ((record { owes_none = refl; least = refl }, record { begun = refl; new = refl; prepared = refl }, refl), tt),
+    ),
   ),
 )
 
 pub returns-clause-b_ends : goal.returns-clause-b_ends
-returns-clause-b_ends c = λ m. ((record { told = refl; none = refl }, refl, refl), ((record { told = refl; least = refl }, (refl, refl)), tt))
+returns-clause-b_ends c = λ m. ((record { owes_none = refl; none = refl }, refl, refl), ((record { owes_none = refl; least = refl }, (refl, refl)), tt))
 
 pub returns-clause-held : goal.returns-clause-held
 returns-clause-held c = λ m. refl
@@ -194,13 +197,13 @@ pub returns-clause-refused : goal.returns-clause-refused
 returns-clause-refused c = λ m k. never k.1.1
 
 pub returns-clause-quiet : goal.returns-clause-quiet
-returns-clause-quiet c = λ m. record { told = refl; none = refl }
+returns-clause-quiet c = λ m. record { owes_none = refl; none = refl }
 
 pub returns-clause-answered : goal.returns-clause-answered
 returns-clause-answered c = λ m. refl
 
 pub returns-clause-y_ends : goal.returns-clause-y_ends
-returns-clause-y_ends c = λ m. ((record { told = refl; none = refl }, refl, refl), ((record { told = refl; least = refl }, (refl, refl)), tt))
+returns-clause-y_ends c = λ m. ((record { owes_none = refl; none = refl }, refl, refl), ((record { owes_none = refl; least = refl }, (refl, refl)), tt))
 
 pub returns-clause-goes_on : goal.returns-clause-goes_on
 returns-clause-goes_on c = λ m. refl

@@ -11,8 +11,8 @@ returns-clause-moves c = move_on
 pub returns-clause-kills : goal.returns-clause-kills
 returns-clause-kills c = kill_on
 
-pub returns-clause-tells : goal.returns-clause-tells
-returns-clause-tells c = told_on
+pub returns-clause-hears : goal.returns-clause-hears
+returns-clause-hears c = told_on
 
 pub returns-clause-starts : goal.returns-clause-starts
 returns-clause-starts c = start_on

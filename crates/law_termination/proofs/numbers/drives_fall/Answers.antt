@@ -12,8 +12,8 @@ returns-clause-moves c = move_rank
 pub returns-clause-kills : goal.returns-clause-kills
 returns-clause-kills c = killed_rank
 
-pub returns-clause-tells : goal.returns-clause-tells
-returns-clause-tells c = told_rank
+pub returns-clause-hears : goal.returns-clause-hears
+returns-clause-hears c = told_rank
 
 pub returns-clause-starts : goal.returns-clause-starts
 returns-clause-starts c = started_rank

@@ -10,8 +10,8 @@ returns-clause-moves c = move_turn
 pub returns-clause-kills : goal.returns-clause-kills
 returns-clause-kills c = killed_turn
 
-pub returns-clause-tells : goal.returns-clause-tells
-returns-clause-tells c = told_turn
+pub returns-clause-hears : goal.returns-clause-hears
+returns-clause-hears c = told_turn
 
 pub returns-clause-starts : goal.returns-clause-starts
 returns-clause-starts c = started_turn

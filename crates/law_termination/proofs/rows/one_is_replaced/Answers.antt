@@ -32,7 +32,7 @@ returns-clause-first c = λ m. record {
   seen = replaced m;
   quietly = refl;
   hands =
-      (1, step.Run, record { told = refl; least = refl }, (refl, refl), refl);
+      (1, step.Run, record { owes_none = refl; least = refl }, (refl, refl), refl);
 }
 
 pub returns-clause-then : goal.returns-clause-then
@@ -41,7 +41,7 @@ returns-clause-then c = λ m. record {
   seen = one_stopped m;
   quietly = refl;
   hands =
-      (0, step.Run, record { told = refl; least = refl }, (refl, refl), refl);
+      (0, step.Run, record { owes_none = refl; least = refl }, (refl, refl), refl);
 }
 
 pub returns-clause-versions : goal.returns-clause-versions
@@ -51,6 +51,6 @@ pub returns-clause-comes : goal.returns-clause-comes
 returns-clause-comes c = λ m. record {
   made = record { who = 0; what = event.MayBegin } ∷ record { who = 0; what = event.MayBegin } ∷ [];
   seen = begun_again m;
-  quietly = (record { told = refl; least = refl }, refl, (record { told = refl; least = refl }, refl, refl));
-  hands = (record { told = refl; least = refl }, record { begun = refl; new = refl; prepared = refl }, refl);
+  quietly = (record { owes_none = refl; least = refl }, refl, (record { owes_none = refl; least = refl }, refl, refl));
+  hands = (record { owes_none = refl; least = refl }, record { begun = refl; new = refl; prepared = refl }, refl);
 }

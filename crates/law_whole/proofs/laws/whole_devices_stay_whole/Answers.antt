@@ -12,8 +12,8 @@ returns-clause-step c = after_record
 pub returns-clause-run : goal.returns-clause-run
 returns-clause-run c d e records whole is brings = after_run records d e whole is brings
 
-pub returns-clause-fronts : goal.returns-clause-fronts
-returns-clause-fronts c = brought_stay_whole
+pub returns-clause-prefixes : goal.returns-clause-prefixes
+returns-clause-prefixes c = brought_stay_whole
 
 pub returns-clause-one_item : goal.returns-clause-one_item
 returns-clause-one_item c = one_item_is_whole

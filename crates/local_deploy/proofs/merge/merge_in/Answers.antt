@@ -4,7 +4,7 @@ use Rattle.std.specs.List.{AllZip}
 use Rattle.serde_json.specs.Data.{Data}
 use Rattle.tree_core.specs.View.{view, field_view}
 use Rattle.nuc_base.proofs.Tables.{answers_after}
-use Rattle.nuc_base.specs.Tables.{Answers, each}
+use Rattle.nuc_base.specs.Tables.{AnswerBy, each}
 use Rattle.tree_core.specs.Parts.{members, IsObject, check}
 use Rattle.local_deploy.specs.Lines.{merged_lines}
 use Rattle.local_deploy.specs.Named.{IsMerged}
@@ -26,9 +26,9 @@ returns c =
     let long : length (members (view c.args.merge.now)) ≡ length c.in-Fields.fields.items = ap length all
     ∙ length-map c.in-Fields.fields.items field_view in
     let short : length (members (view c.args.merge.now)) ≤ 128 = omega arith in
-    let whole : Answers NoMemory (each merged_lines (members (view c.args.merge.now))) (AllZip IsMerged (members (view c.args.merge.now)))
+    let whole : AnswerBy NoMemory (each merged_lines (members (view c.args.merge.now))) (AllZip IsMerged (members (view c.args.merge.now)))
     c.merge_among.result =
-    subst (λ (ms : List (List ℕ × Data)). Answers NoMemory (each merged_lines ms) (AllZip IsMerged ms) c.merge_among.result) (sym all) c.merge_among.ensures in
+    subst (λ (ms : List (List ℕ × Data)). AnswerBy NoMemory (each merged_lines ms) (AllZip IsMerged ms) c.merge_among.result) (sym all) c.merge_among.ensures in
     answers_after NoMemory (check (IsObject (view c.args.merge.now)) (WrongKind Merge)
     ++ check (length (members (view c.args.merge.now)) ≤ 128) (TooMany Merge))
     (each merged_lines (members (view c.args.merge.now)))

@@ -4,7 +4,7 @@ use Rattle.std.specs.List.{AllZip}
 use Rattle.serde_json.specs.Data.{Data}
 use Rattle.tree_core.specs.View.{view}
 use Rattle.nuc_base.proofs.Tables.{answers_after}
-use Rattle.nuc_base.specs.Tables.{Answers, each}
+use Rattle.nuc_base.specs.Tables.{AnswerBy, each}
 use Rattle.tree_core.specs.Parts.{values, IsList, check}
 use Rattle.local_deploy.specs.Lines.{removed_lines}
 use Rattle.local_deploy.specs.Named.{IsNamed}
@@ -26,8 +26,8 @@ returns c =
     let all : values d ≡ map view c.in-Items.items.items = values_are _ c.in-Items.items c.in-Items.is in
     let long : length (values d) ≡ length c.in-Items.items.items = ap length all ∙ length-map c.in-Items.items.items view in
     let short : length (values d) ≤ 128 = omega arith in
-    let whole : Answers NoMemory (each lines (values d)) (AllZip IsNamed (values d)) c.names_among.result =
-    subst (λ (ds : List Data). Answers NoMemory (each lines ds) (AllZip IsNamed ds) c.names_among.result) (sym all) c.names_among.ensures in
+    let whole : AnswerBy NoMemory (each lines (values d)) (AllZip IsNamed (values d)) c.names_among.result =
+    subst (λ (ds : List Data). AnswerBy NoMemory (each lines ds) (AllZip IsNamed ds) c.names_among.result) (sym all) c.names_among.ensures in
     answers_after NoMemory (check (IsList d) (WrongKind Remove) ++ check (length (values d) ≤ 128) (TooMany Remove))
     (each lines (values d))
     (AllZip IsNamed (values d))

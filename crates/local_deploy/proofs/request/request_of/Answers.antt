@@ -3,7 +3,7 @@ use Rattle.std.specs.List.{AllZip}
 use Rattle.tree_core.specs.View.{view}
 use Rattle.tree_core.specs.Parts.{IsObject}
 use Rattle.tree_core.proofs.Seen.{is_object}
-use Rattle.nuc_base.specs.Tables.{AllHold, Faults}
+use Rattle.nuc_base.specs.Tables.{AllHold, IsFaultBy}
 use Rattle.nuc_base.proofs.Tables.{handed_on}
 use Rattle.deployment_doc.specs.Named.{components as members_in}
 use Rattle.local_deploy.specs.Lines.{request_lines, value_of, values_in}
@@ -65,7 +65,7 @@ returns-in_err-check_apart c =
     let above : AllHold (above_aparts d) = hold_updates d (hold_removes d (hold_merges d (hold_policies d (hold_ids d object c.in_ok-id.ensures.0)
     c.in_ok-policy.ensures.0) c.in_ok-merge.ensures.0) c.in_ok-remove.ensures.0) c.in_ok-updates.ensures.0 in
     let removed = c.in_ok-remove.ensures.1 in
-    let here : Faults NoMemory (aparts d) f = apart_fault (values_in (value_of Remove d)) removed.names c.as_slice-2.result.now removed.are
+    let here : IsFaultBy NoMemory (aparts d) f = apart_fault (values_in (value_of Remove d)) removed.names c.as_slice-2.result.now removed.are
     (c.as_slice-2.ensures ∙ removed.each_once) (members_in (value_of Merge d)) c.as_slice.result.now
     (subst (λ (l : List Merged). AllZip IsMerged (members_in (value_of Merge d)) l) (sym c.as_slice.ensures) c.in_ok-merge.ensures.1) f
     c.in_err-check_apart.ensures in

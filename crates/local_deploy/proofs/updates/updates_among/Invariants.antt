@@ -1,9 +1,9 @@
 use Rattle.std.proofs.Common.{map, drop}
 use Rattle.tree_core.specs.View.{field_view}
-use Rattle.nuc_base.specs.Tables.{Passes}
+use Rattle.nuc_base.specs.Tables.{IsPass}
 use Rattle.local_deploy.specs.Lines.{updated_lines}
 use Rattle.local_deploy.specs.Named.{IsUpdated}
 use Rattle.local_deploy.proofs.updates.updates_among.Given as goal
 
 abbrev pub invariant-loop-name : goal.invariant-loop-name
-invariant-loop-name l = Passes updated_lines IsUpdated (map field_view l.name-items) (map field_view (drop l.name-index l.name-items)) l.updates.items
+invariant-loop-name l = IsPass updated_lines IsUpdated (map field_view l.name-items) (map field_view (drop l.name-index l.name-items)) l.updates.items

@@ -4,7 +4,7 @@ use Rattle.std.specs.List.{AllZip}
 use Rattle.serde_json.specs.Data.{Data}
 use Rattle.tree_core.specs.View.{view, field_view}
 use Rattle.nuc_base.proofs.Tables.{answers_after}
-use Rattle.nuc_base.specs.Tables.{Answers, each}
+use Rattle.nuc_base.specs.Tables.{AnswerBy, each}
 use Rattle.tree_core.specs.Parts.{members, IsObject, check}
 use Rattle.local_deploy.specs.Lines.{updated_lines}
 use Rattle.local_deploy.specs.Named.{IsUpdated}
@@ -27,9 +27,9 @@ returns c =
     let long : length (members (view c.args.updates.now)) ≡ length c.in-Fields.fields.items = ap length all
     ∙ length-map c.in-Fields.fields.items field_view in
     let short : length (members (view c.args.updates.now)) ≤ 128 = omega arith in
-    let whole : Answers NoMemory (each updated_lines (members (view c.args.updates.now))) (AllZip IsUpdated (members (view c.args.updates.now)))
+    let whole : AnswerBy NoMemory (each updated_lines (members (view c.args.updates.now))) (AllZip IsUpdated (members (view c.args.updates.now)))
     c.updates_among.result =
-    subst (λ (ms : List (List ℕ × Data)). Answers NoMemory (each updated_lines ms) (AllZip IsUpdated ms) c.updates_among.result)
+    subst (λ (ms : List (List ℕ × Data)). AnswerBy NoMemory (each updated_lines ms) (AllZip IsUpdated ms) c.updates_among.result)
     (sym all) c.updates_among.ensures in
     answers_after NoMemory (check (IsObject (view c.args.updates.now)) (WrongKind UpdateConfig)
     ++ check (length (members (view c.args.updates.now)) ≤ 128) (TooMany UpdateConfig))

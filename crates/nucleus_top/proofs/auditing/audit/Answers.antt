@@ -6,7 +6,7 @@ use Rattle.disk_model.specs.Disk.{Image}
 use Rattle.disk_model.specs.Moments.{then_same}
 use Rattle.nuc_base.specs.Faults.{Rose}
 use Rattle.nucleus_top.specs.Answers.{Store, store_of}
-use Rattle.nucleus_top.specs.Audits.{Compares}
+use Rattle.nucleus_top.specs.Audits.{ComparisonAnswer}
 use Rattle.nucleus_top.proofs.AuditEnds.{found_audits}
 use Rattle.nucleus_top.proofs.Faults.{refuses, refused_audits, refused_keeps, other_fault}
 use Rattle.nucleus_top.proofs.Images.{settled_on}
@@ -16,7 +16,7 @@ pub returns-in-Ok-clause-comes : goal.returns-in-Ok-clause-comes
 returns-in-Ok-clause-comes g c =
     let store : Store = store_of g.D.Disk.is_modelled g.D.Disk.seen g.D.Disk.faults c.args.disk.now c.compare_stored.new.disk in
     let d = loaded_device c.in-Ok.state in
-    found_audits store d c.compare_stored.result (subst (λ (s : Image). Compares g.D.Disk.is_modelled s d c.compare_stored.result) c.open.ensures.seen
+    found_audits store d c.compare_stored.result (subst (λ (s : Image). ComparisonAnswer g.D.Disk.is_modelled s d c.compare_stored.result) c.open.ensures.seen
     c.compare_stored.ensures.comes)
     (c.compare_stored.ensures.seen ∙ c.open.ensures.seen)
     (λ is. let rose : Rose (g.D.Disk.faults c.args.disk.now) (g.D.Disk.faults c.compare_stored.new.disk) =

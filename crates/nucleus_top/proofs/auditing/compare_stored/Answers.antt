@@ -1,10 +1,10 @@
 use Rattle.std.proofs.Common.{subst}
 use Rattle.device.specs.Devices.{Device}
-use Rattle.nucleus_top.specs.Audits.{Compares}
+use Rattle.nucleus_top.specs.Audits.{ComparisonAnswer}
 use Rattle.nucleus_top.proofs.auditing.compare_stored.Goals as goal
 
 pub returns-clause-comes : goal.returns-clause-comes
-returns-clause-comes g c = subst (λ (d : Device). Compares g.D.Disk.is_modelled (g.D.Disk.seen c.args.disk.now) d c.compare.result) c.stored.ensures
+returns-clause-comes g c = subst (λ (d : Device). ComparisonAnswer g.D.Disk.is_modelled (g.D.Disk.seen c.args.disk.now) d c.compare.result) c.stored.ensures
     c.compare.ensures.comes
 
 pub returns-clause-seen : goal.returns-clause-seen

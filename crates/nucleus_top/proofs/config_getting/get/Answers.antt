@@ -2,7 +2,7 @@ use Rattle.std.proofs.Common.{Err, ap}
 use Rattle.command_words.specs.declared.order.Order.TheVariants as order
 use Rattle.deploy_state.specs.States.{loaded_device}
 use Rattle.nucleus_top.specs.Answers.{Store, store_of}
-use Rattle.nucleus_top.specs.Gets.{GetsOn}
+use Rattle.nucleus_top.specs.Gets.{GetAnswerOn}
 use Rattle.nucleus_top.proofs.Faults.{refuses, refused_keeps, other_fault}
 use Rattle.nucleus_top.proofs.GetEnds.{gets_none}
 use Rattle.nucleus_top.proofs.Looked.{found_looks, refused_looks}
@@ -14,7 +14,7 @@ get_stored-requires g c = record { ready = c.in-Ok.ensures.ready }
 pub returns-in-Ok-clause-comes : goal.returns-in-Ok-clause-comes
 returns-in-Ok-clause-comes g c =
     let store : Store = store_of g.D.Disk.is_modelled g.D.Disk.seen g.D.Disk.faults c.args.disk.now c.open.new.disk in
-    found_looks (λ d. GetsOn d c.args.name.now c.args.at.now) store (gets_none c.args.name.now c.args.at.now store) (loaded_device c.in-Ok.state)
+    found_looks (λ d. GetAnswerOn d c.args.name.now c.args.at.now) store (gets_none c.args.name.now c.args.at.now store) (loaded_device c.in-Ok.state)
     c.get_stored.result c.open.ensures.seen c.in-Ok.ensures.told c.get_stored.ensures
 
 pub returns-in-Ok-clause-moments : goal.returns-in-Ok-clause-moments
@@ -35,7 +35,7 @@ returns-in-Ok-clause-later g c = c.open.ensures.later
 pub returns-in-Err-clause-comes : goal.returns-in-Err-clause-comes
 returns-in-Err-clause-comes g c =
     let store : Store = store_of g.D.Disk.is_modelled g.D.Disk.seen g.D.Disk.faults c.args.disk.now c.open.new.disk in
-    refused_looks (λ d. GetsOn d c.args.name.now c.args.at.now) store c.refused.result (refuses store c.in-Err.fault c.refused.result
+    refused_looks (λ d. GetAnswerOn d c.args.name.now c.args.at.now) store c.refused.result (refuses store c.in-Err.fault c.refused.result
     c.refused.ensures c.open.ensures.seen c.in-Err.ensures.told (λ is. c.in-Err.ensures.cause (ap Err is)))
 
 pub returns-in-Err-clause-moments : goal.returns-in-Err-clause-moments

@@ -4,7 +4,7 @@ use Rattle.nuc_base.specs.Faults.{Rose}
 use Rattle.deploy_state.specs.States.{idle_device}
 use Rattle.nucleus_top.specs.Answers.{Input, Printed, Shelf, Store, input_of, printed_of, shelf_of, store_of}
 use Rattle.nucleus_top.specs.Drives.{slots_start}
-use Rattle.nucleus_top.proofs.Driven.{idle_refusal, idle_turns, ran_on, stays, stays_on, tells, told_sweeps}
+use Rattle.nucleus_top.proofs.Driven.{idle_refusal, idle_refused, ran_on, stays, stays_on, tells, told_sweeps}
 use Rattle.nucleus_top.proofs.Reading.{reads_none}
 use Rattle.nucleus_top.proofs.driving.deploy.Goals as goal
 
@@ -78,8 +78,8 @@ returns-in-Err-clause-ran g c =
     inl (
       record {
         answer = c.in-Err.answer;
-        why = idle_turns store input c.in-Err.answer refl c.in-Err.ensures.answers;
-        told = c.tell-status.ensures.told;
+        why = idle_refused store input c.in-Err.answer refl c.in-Err.ensures.answers;
+        is_printed = c.tell-status.ensures.is_printed;
         spared = c.open_idle.ensures.spared;
         images = c.open_idle.ensures.images;
         whole = c.open_idle.ensures.whole;
@@ -97,35 +97,35 @@ returns-in-Err-clause-disk g c = λ is.
     let printed : Printed = printed_of g.K.Sink.held g.K.Sink.faults c.args.sink.now c.tell-status.new.sink in
     c.in-Err.ensures.disk (ap Err ((tells printed c.tell-status.result c.in-Err.answer
     (idle_refusal (store_of g.D.Disk.is_modelled g.D.Disk.seen g.D.Disk.faults c.args.disk.now c.open_idle.new.disk) c.in-Err.answer
-    c.in-Err.ensures.answers) c.tell-status.ensures.told).disk is))
+    c.in-Err.ensures.answers) c.tell-status.ensures.is_printed).disk is))
 
 pub returns-in-Err-clause-quiet_disk : goal.returns-in-Err-clause-quiet_disk
 returns-in-Err-clause-quiet_disk g c = λ other more.
     let printed : Printed = printed_of g.K.Sink.held g.K.Sink.faults c.args.sink.now c.tell-status.new.sink in
     c.in-Err.ensures.quiet (λ is. (tells printed c.tell-status.result c.in-Err.answer
     (idle_refusal (store_of g.D.Disk.is_modelled g.D.Disk.seen g.D.Disk.faults c.args.disk.now c.open_idle.new.disk) c.in-Err.answer
-    c.in-Err.ensures.answers) c.tell-status.ensures.told).quiet other more (cc))
+    c.in-Err.ensures.answers) c.tell-status.ensures.is_printed).quiet other more (cc))
 
 pub returns-in-Err-clause-quiet_sink : goal.returns-in-Err-clause-quiet_sink
 returns-in-Err-clause-quiet_sink g c =
     let printed : Printed = printed_of g.K.Sink.held g.K.Sink.faults c.args.sink.now c.tell-status.new.sink in
     (tells printed c.tell-status.result c.in-Err.answer
     (idle_refusal (store_of g.D.Disk.is_modelled g.D.Disk.seen g.D.Disk.faults c.args.disk.now c.open_idle.new.disk) c.in-Err.answer
-    c.in-Err.ensures.answers) c.tell-status.ensures.told).quiet_sink
+    c.in-Err.ensures.answers) c.tell-status.ensures.is_printed).quiet_sink
 
 pub returns-in-Err-clause-library : goal.returns-in-Err-clause-library
 returns-in-Err-clause-library g c = λ is.
     let printed : Printed = printed_of g.K.Sink.held g.K.Sink.faults c.args.sink.now c.tell-status.new.sink in
     absurd ((tells printed c.tell-status.result c.in-Err.answer
     (idle_refusal (store_of g.D.Disk.is_modelled g.D.Disk.seen g.D.Disk.faults c.args.disk.now c.open_idle.new.disk) c.in-Err.answer
-    c.in-Err.ensures.answers) c.tell-status.ensures.told).library is)
+    c.in-Err.ensures.answers) c.tell-status.ensures.is_printed).library is)
 
 pub returns-in-Err-clause-edge : goal.returns-in-Err-clause-edge
 returns-in-Err-clause-edge g c = λ is.
     let printed : Printed = printed_of g.K.Sink.held g.K.Sink.faults c.args.sink.now c.tell-status.new.sink in
     inr ((tells printed c.tell-status.result c.in-Err.answer
     (idle_refusal (store_of g.D.Disk.is_modelled g.D.Disk.seen g.D.Disk.faults c.args.disk.now c.open_idle.new.disk) c.in-Err.answer
-    c.in-Err.ensures.answers) c.tell-status.ensures.told).edge is)
+    c.in-Err.ensures.answers) c.tell-status.ensures.is_printed).edge is)
 
 pub returns-in-Err-clause-later : goal.returns-in-Err-clause-later
 returns-in-Err-clause-later g c = (
@@ -143,7 +143,7 @@ returns-in-Err-clause-swept g c =
     let printed : Printed = printed_of g.K.Sink.held g.K.Sink.faults c.args.sink.now c.tell-status.new.sink in
     told_sweeps g.D.Disk.is_modelled printed c.tell-status.result (g.D.Disk.seen c.open_idle.new.disk) c.in-Err.answer
     (idle_refusal (store_of g.D.Disk.is_modelled g.D.Disk.seen g.D.Disk.faults c.args.disk.now c.open_idle.new.disk) c.in-Err.answer c.in-Err.ensures.answers)
-    c.tell-status.ensures.told
+    c.tell-status.ensures.is_printed
 
 -- ---- what is read of the source
 

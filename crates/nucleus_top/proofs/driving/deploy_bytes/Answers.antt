@@ -1,5 +1,5 @@
 use Rattle.std.proofs.Common.{ap, subst}
-use Rattle.admission.specs.Requests.{Makes}
+use Rattle.admission.specs.Requests.{AnswerOfAsk}
 use Rattle.admission.specs.declared.ask.Ask.{Ask}
 use Rattle.deploy_state.specs.States.{idle_device}
 use Rattle.device.specs.Devices.{Device}
@@ -18,7 +18,7 @@ returns-in-Document-clause-driven g c =
     (g.R.Runner.list c.args.runner.now) (g.R.Runner.list c.deploy_made-in-Document.new.runner) printed c.deploy_made-in-Document.result d
     (slots_start c.args.idle.log d)
     c.args.what.now c.args.bytes.now c.make_document-made.result
-    (subst (λ (e : Device). Makes c.args.what.now c.args.bytes.now e c.make_document-made.result) c.device.ensures c.make_document-made.ensures.makes)
+    (subst (λ (e : Device). AnswerOfAsk c.args.what.now c.args.bytes.now e c.make_document-made.result) c.device.ensures c.make_document-made.ensures.makes)
     library library (over_given c.args.what.now library c.in-Document.is) c.deploy_made-in-Document.ensures.driven
 
 -- and a change of a configuration over none
@@ -30,5 +30,5 @@ returns-in-Change-clause-driven g c =
     bytes_deployed g.D.Disk.may_leave g.D.Disk.moment g.D.Disk.left_since g.D.Disk.faults c.args.disk.now c.deploy_made.new.disk
     (g.R.Runner.list c.args.runner.now) (g.R.Runner.list c.deploy_made.new.runner) printed c.deploy_made.result d
     (slots_start c.args.idle.log d) c.args.what.now c.args.bytes.now c.make_document-made.result
-    (subst (λ (e : Device). Makes c.args.what.now c.args.bytes.now e c.make_document-made.result) c.device.ensures c.make_document-made.ensures.makes)
+    (subst (λ (e : Device). AnswerOfAsk c.args.what.now c.args.bytes.now e c.make_document-made.result) c.device.ensures c.make_document-made.ensures.makes)
     library no_shelf (ap (λ (a : Ask). shelf_for a library) c.in-Change.is) c.deploy_made.ensures.driven

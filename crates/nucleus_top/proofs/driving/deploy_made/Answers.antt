@@ -4,7 +4,7 @@ use Rattle.step_runner.specs.Entries.{Listed}
 use Rattle.components.specs.Components.{Components}
 use Rattle.histories.specs.TraceEvents.{records_of}
 use Rattle.nucleus_top.specs.Drives.{IsMade, slots_start}
-use Rattle.nucleus_top.proofs.Crashes.{kept_fronts}
+use Rattle.nucleus_top.proofs.Crashes.{kept_prefixes}
 use Rattle.nucleus_top.proofs.Driven.{begun, made_takes, open_begun, slots_elsewhere}
 use Rattle.nucleus_top.proofs.Images.{held_stands}
 use Rattle.nucleus_top.proofs.Meeting.{brought_stay_met, deployed_brings, deployed_stay}
@@ -22,8 +22,8 @@ run_made_to_end-requires-clause-apart g c = slots_elsewhere c.needed_files_stay.
 pub run_made_to_end-requires-clause-empty : goal.run_made_to_end-requires-clause-empty
 run_made_to_end-requires-clause-empty g c = ap (λ (w : Components). w.parts) c.new-supervisor.ensures
 
-pub run_made_to_end-requires-clause-placed : goal.run_made_to_end-requires-clause-placed
-run_made_to_end-requires-clause-placed g c =
+pub run_made_to_end-requires-clause-from_state : goal.run_made_to_end-requires-clause-from_state
+run_made_to_end-requires-clause-from_state g c =
     let told = Listed g.R.Runner.list g.R.Runner.told g.R.Runner.asked c.args.runner.now in (
       begun (idle_device c.args.idle) told,
       open_begun (idle_device c.args.idle) c.new-supervisor.result told (g.R.Runner.living c.args.runner.now)
@@ -35,8 +35,8 @@ pub returns-clause-driven : goal.returns-clause-driven
 returns-clause-driven g c =
     let told = Listed g.R.Runner.list g.R.Runner.told g.R.Runner.asked c.args.runner.now in
     let d = idle_device c.args.idle in
-    let place = begun d told in
-    let run = c.run_made_to_end.ensures.call place (open_begun d c.new-supervisor.result told (g.R.Runner.living c.args.runner.now) c.new-supervisor.ensures
+    let state = begun d told in
+    let run = c.run_made_to_end.ensures.call state (open_begun d c.new-supervisor.result told (g.R.Runner.living c.args.runner.now) c.new-supervisor.ensures
     c.requires.none c.requires.held.1) refl in
     let origin = some_of d.origin c.requires.held.0.origin in
     let content = g.L.Library.content c.args.library.now in
@@ -44,7 +44,7 @@ returns-clause-driven g c =
     let after = g.L.Library.faults c.run_made_to_end.new.library in
     let takes = made_takes d origin.0 content before after c.args.made run.0 (run.1 origin.0 origin.1) in
     record {
-      place = place;
+      state = state;
       serves = refl;
       idle = c.requires.held.1;
       origin = origin.0;
@@ -56,9 +56,9 @@ returns-clause-driven g c =
         device_is = refl;
         sound = c.requires.held.0.sound;
         history = record { start = refl; proper = run.2.0.trace.proper; run = run.2.0.trace.run };
-        images = kept_fronts g.met.D.Disk.laws (slots_elsewhere c.needed_files_stay.ensures.journals) c.args.disk.now c.run_made_to_end.new.disk
+        images = kept_prefixes g.met.D.Disk.laws (slots_elsewhere c.needed_files_stay.ensures.journals) c.args.disk.now c.run_made_to_end.new.disk
             (g.R.Runner.list c.args.runner.now) (g.R.Runner.list c.run_made_to_end.new.runner) (g.K.Sink.held c.args.sink.now)
-            (g.K.Sink.held c.run_made_to_end.new.sink) place c.run_made_to_end.result
+            (g.K.Sink.held c.run_made_to_end.new.sink) state c.run_made_to_end.result
             (held_stands g.met.D.Disk.laws c.args.idle.log c.args.disk.now d c.requires.held.0) run.2.0;
         whole = held_whole g.met.D.Disk.laws c.args.disk.now c.run_made_to_end.new.disk d (records_of run.2.0.history)
             (held_stands g.met.D.Disk.laws c.args.idle.log c.args.disk.now d c.requires.held.0) run.3;
@@ -73,7 +73,7 @@ returns-clause-driven g c =
       library_cause = run.6;
       lasts = call_lasts g.D.Disk.may_leave g.D.Disk.moment g.D.Disk.left_since c.args.disk.now c.run_made_to_end.new.disk
           (g.R.Runner.list c.args.runner.now) (g.R.Runner.list c.run_made_to_end.new.runner) (g.K.Sink.held c.args.sink.now)
-          (g.K.Sink.held c.run_made_to_end.new.sink) place c.run_made_to_end.result run.2.0;
+          (g.K.Sink.held c.run_made_to_end.new.sink) state c.run_made_to_end.result run.2.0;
       accepts = run.7;
     }
 

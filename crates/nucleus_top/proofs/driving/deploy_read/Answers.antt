@@ -4,7 +4,7 @@ use Rattle.checkpoint_log.specs.Laws.{slots_laws}
 use Rattle.deploy_state.specs.States.{idle_device}
 use Rattle.session.proofs.Sweeping.{none_closes}
 use Rattle.nucleus_top.specs.Answers.{Input, Printed, Shelf, input_of, printed_of, shelf_of}
-use Rattle.admission.specs.Requests.{Requests}
+use Rattle.admission.specs.Requests.{AskOutcome}
 use Rattle.nucleus_top.specs.Drives.{IsDeployedOn, shelf_for, slots_start}
 use Rattle.nucleus_top.proofs.Driven.{document_deploys, first_by, stays, tells_none, unread_goes}
 use Rattle.nucleus_top.proofs.Images.{held_stands}
@@ -30,7 +30,7 @@ returns-in-Ok-clause-ran g c =
     (c.in-Ok.ensures.quiet (λ is. cc)) c.in-Ok.bytes c.in-Ok.ensures.bytes
     (subst (λ (bytes : List ℕ). IsDeployedOn g.D.Disk.may_leave g.D.Disk.moment g.D.Disk.left_since g.D.Disk.faults c.args.disk.now c.deploy_bytes.new.disk
     (g.R.Runner.list c.args.runner.now) (g.R.Runner.list c.deploy_bytes.new.runner) printed c.deploy_bytes.result d start library
-    (Requests c.args.what.now bytes))
+    (AskOutcome c.args.what.now bytes))
     c.as_slice.ensures c.deploy_bytes.ensures.driven))
 
 pub returns-in-Ok-clause-none : goal.returns-in-Ok-clause-none
@@ -75,7 +75,7 @@ returns-in-Err-clause-ran g c =
       record {
         answer = c.unread-answer.result;
         why = unread_goes input c.in-Err.fault c.unread-answer.result c.unread-answer.ensures (λ is. c.in-Err.ensures.cause (ap Err is));
-        told = c.tell-status.ensures.told;
+        is_printed = c.tell-status.ensures.is_printed;
         same = refl {a = c.args.disk.now};
       },
       refl {a = c.args.runner.now},
@@ -87,29 +87,29 @@ returns-in-Err-clause-others g c = λ told name apart outside. refl
 pub returns-in-Err-clause-disk : goal.returns-in-Err-clause-disk
 returns-in-Err-clause-disk g c = λ is.
     let printed : Printed = printed_of g.K.Sink.held g.K.Sink.faults c.args.sink.now c.tell-status.new.sink in
-    absurd ((tells_none printed c.tell-status.result c.in-Err.fault c.unread-answer.result c.unread-answer.ensures c.tell-status.ensures.told).disk is)
+    absurd ((tells_none printed c.tell-status.result c.in-Err.fault c.unread-answer.result c.unread-answer.ensures c.tell-status.ensures.is_printed).disk is)
 
 pub returns-in-Err-clause-quiet_sink : goal.returns-in-Err-clause-quiet_sink
 returns-in-Err-clause-quiet_sink g c =
     let printed : Printed = printed_of g.K.Sink.held g.K.Sink.faults c.args.sink.now c.tell-status.new.sink in
-    (tells_none printed c.tell-status.result c.in-Err.fault c.unread-answer.result c.unread-answer.ensures c.tell-status.ensures.told).quiet_sink
+    (tells_none printed c.tell-status.result c.in-Err.fault c.unread-answer.result c.unread-answer.ensures c.tell-status.ensures.is_printed).quiet_sink
 
 pub returns-in-Err-clause-library : goal.returns-in-Err-clause-library
 returns-in-Err-clause-library g c = λ is.
     let printed : Printed = printed_of g.K.Sink.held g.K.Sink.faults c.args.sink.now c.tell-status.new.sink in
-    absurd ((tells_none printed c.tell-status.result c.in-Err.fault c.unread-answer.result c.unread-answer.ensures c.tell-status.ensures.told).library is)
+    absurd ((tells_none printed c.tell-status.result c.in-Err.fault c.unread-answer.result c.unread-answer.ensures c.tell-status.ensures.is_printed).library is)
 
 pub returns-in-Err-clause-edge : goal.returns-in-Err-clause-edge
 returns-in-Err-clause-edge g c = λ is.
     let printed : Printed = printed_of g.K.Sink.held g.K.Sink.faults c.args.sink.now c.tell-status.new.sink in
     first_by (λ same. c.in-Err.ensures.cause (ap Err same)) ((tells_none printed c.tell-status.result c.in-Err.fault c.unread-answer.result
-    c.unread-answer.ensures c.tell-status.ensures.told).edge is)
+    c.unread-answer.ensures c.tell-status.ensures.is_printed).edge is)
 
 pub returns-in-Err-clause-quiet_source : goal.returns-in-Err-clause-quiet_source
 returns-in-Err-clause-quiet_source g c = λ other.
     let printed : Printed = printed_of g.K.Sink.held g.K.Sink.faults c.args.sink.now c.tell-status.new.sink in
     c.in-Err.ensures.quiet (λ is. (tells_none printed c.tell-status.result c.in-Err.fault c.unread-answer.result c.unread-answer.ensures
-    c.tell-status.ensures.told).quiet other (cc))
+    c.tell-status.ensures.is_printed).quiet other (cc))
 
 pub returns-in-Err-clause-later : goal.returns-in-Err-clause-later
 returns-in-Err-clause-later g c = (

@@ -9,14 +9,14 @@ use Rattle.deploy_state.specs.declared.state.Loaded.{Loaded}
 use Rattle.deploy_state.specs.declared.state.Loaded.TheVariants as loaded
 use Rattle.nucleus_top.specs.Answers.{Store, store_of}
 use Rattle.nucleus_top.specs.Drives.{StartsFrom, slots_start}
-use Rattle.nucleus_top.specs.Opening.{HasEntry, Stands}
+use Rattle.nucleus_top.specs.Opening.{HasEntry, IsImageOf}
 use Rattle.nucleus_top.specs.declared.answer.Answer.TheVariants.{DiskFailed}
 use Rattle.nucleus_top.proofs.Driven.{idle_ok, ok_by, pending_no_disk, pending_withholds, withholds_idle}
 use Rattle.nucleus_top.proofs.driving.open_idle.Goals as goal
 
 pub returns-in-Ok-clause-opened : goal.returns-in-Ok-clause-opened
 returns-in-Ok-clause-opened g c = λ told.
-    idle_ok (λ (s : Loaded Slots). HasEntry (g.D.Disk.seen c.args.disk.now) × Stands (g.D.Disk.seen c.args.disk.now) (loaded_device s))
+    idle_ok (λ (s : Loaded Slots). HasEntry (g.D.Disk.seen c.args.disk.now) × IsImageOf (g.D.Disk.seen c.args.disk.now) (loaded_device s))
     (λ (s : Idle Slots). loaded.Idle s) c.in-Ok.state c.idle_of.result c.idle_of.ensures.idle (c.in-Ok.ensures.opened told)
 
 pub returns-in-Ok-clause-start : goal.returns-in-Ok-clause-start

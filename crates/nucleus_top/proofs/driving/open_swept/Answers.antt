@@ -11,7 +11,7 @@ use Rattle.deploy_state.specs.declared.state.Loaded.{Loaded}
 use Rattle.deploy_state.specs.declared.state.Loaded.TheVariants as loaded
 use Rattle.nucleus_top.specs.Answers.{Store, store_of}
 use Rattle.nucleus_top.specs.Drives.{StartsFrom, slots_start}
-use Rattle.nucleus_top.specs.Opening.{HasEntry, Stands}
+use Rattle.nucleus_top.specs.Opening.{HasEntry, IsImageOf}
 use Rattle.nucleus_top.proofs.Crashes.{opened_same, opened_says, same_left}
 use Rattle.nucleus_top.proofs.Driven.{disk_of, kept_ok, loaded_stays, refused_withholds, same_spared, slots_elsewhere, start_spared, starts_from, then_spared}
 use Rattle.nucleus_top.proofs.Driven.{unswept_withholds}
@@ -21,7 +21,7 @@ use Rattle.nucleus_top.proofs.driving.open_swept.Goals as goal
 
 pub returns-in-Ok-clause-opened : goal.returns-in-Ok-clause-opened
 returns-in-Ok-clause-opened g c = λ told.
-    kept_ok (λ (s : Loaded Slots). HasEntry (g.D.Disk.seen c.args.disk.now) × Stands (g.D.Disk.seen c.args.disk.now) (loaded_device s)) c.in-Ok.state
+    kept_ok (λ (s : Loaded Slots). HasEntry (g.D.Disk.seen c.args.disk.now) × IsImageOf (g.D.Disk.seen c.args.disk.now) (loaded_device s)) c.in-Ok.state
     c.swept.result c.swept.ensures.kept (c.in-Ok.ensures.told told)
 
 pub returns-in-Ok-clause-start : goal.returns-in-Ok-clause-start

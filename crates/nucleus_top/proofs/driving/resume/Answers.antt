@@ -7,8 +7,8 @@ use Rattle.components.specs.Components.{Components}
 use Rattle.histories.specs.TraceEvents.{records_of}
 use Rattle.histories.specs.States.{state_after}
 use Rattle.nucleus_top.specs.Answers.{Printed, printed_of, store_of}
-use Rattle.nucleus_top.proofs.Crashes.{kept_fronts, loaded_sound, loaded_stands, same_fronts}
-use Rattle.nucleus_top.proofs.Driven.{begun, front_begun, resumed_on, slots_elsewhere, stays, stays_on, tells, told_sweeps, withheld_first}
+use Rattle.nucleus_top.proofs.Crashes.{kept_prefixes, loaded_sound, loaded_stands, same_prefixes}
+use Rattle.nucleus_top.proofs.Driven.{begun, stage_begun, resumed_on, slots_elsewhere, stays, stays_on, tells, told_sweeps, withheld_first}
 use Rattle.nucleus_top.proofs.Meeting.{brought_stay_met, resumed_brings, resumed_stay}
 use Rattle.nucleus_top.proofs.Whole.{held_whole}
 use Rattle.nucleus_top.proofs.driving.resume.Goals as goal
@@ -24,18 +24,18 @@ resume_to_end-requires-clause-apart g c = slots_elsewhere c.needed_files_stay.en
 pub resume_to_end-requires-clause-empty : goal.resume_to_end-requires-clause-empty
 resume_to_end-requires-clause-empty g c = ap (λ (w : Components). w.parts) c.new-supervisor.ensures
 
-pub resume_to_end-requires-clause-placed : goal.resume_to_end-requires-clause-placed
-resume_to_end-requires-clause-placed g c =
+pub resume_to_end-requires-clause-from_state : goal.resume_to_end-requires-clause-from_state
+resume_to_end-requires-clause-from_state g c =
     let told = Listed g.R.Runner.list g.R.Runner.told g.R.Runner.asked c.args.runner.now in
     let d = loaded_device c.in-Ok.state in
-    (begun d told, front_begun d c.new-supervisor.result told (g.R.Runner.living c.args.runner.now) c.new-supervisor.ensures c.requires.none, refl)
+    (begun d told, stage_begun d c.new-supervisor.result told (g.R.Runner.living c.args.runner.now) c.new-supervisor.ensures c.requires.none, refl)
 
 pub returns-in-Ok-clause-ran : goal.returns-in-Ok-clause-ran
 returns-in-Ok-clause-ran g c =
     let told = Listed g.R.Runner.list g.R.Runner.told g.R.Runner.asked c.args.runner.now in
     let d = loaded_device c.in-Ok.state in
     let printed : Printed = printed_of g.K.Sink.held g.K.Sink.faults c.args.sink.now c.resume_to_end.new.sink in
-    let call = c.resume_to_end.ensures.call (begun d told) (front_begun d c.new-supervisor.result told (g.R.Runner.living c.args.runner.now)
+    let call = c.resume_to_end.ensures.call (begun d told) (stage_begun d c.new-supervisor.result told (g.R.Runner.living c.args.runner.now)
     c.new-supervisor.ensures
     c.requires.none) refl refl in
     inr (
@@ -44,11 +44,11 @@ returns-in-Ok-clause-ran g c =
       resumed_on g.met.D.Disk.laws c.args.disk.now c.open_swept.new.disk c.resume_to_end.new.disk c.open_swept.ensures.spared
           (g.R.Runner.list c.args.runner.now) (g.R.Runner.list c.resume_to_end.new.runner) printed c.resume_to_end.result g.D.Disk.faults
           c.open_swept.ensures.later d
-          (same_fronts g.met.D.Disk.laws c.args.disk.now c.open_swept.new.disk d (λ is_modelled. (c.in-Ok.ensures.opened is_modelled).1)
+          (same_prefixes g.met.D.Disk.laws c.args.disk.now c.open_swept.new.disk d (λ is_modelled. (c.in-Ok.ensures.opened is_modelled).1)
           c.open_swept.ensures.images)
           (λ is_modelled. (c.in-Ok.ensures.opened is_modelled).1) c.open_swept.ensures.whole
           (record {
-            place = begun d told;
+            state = begun d told;
             serves = refl;
             call = call.0;
             resumes = call.1;
@@ -56,7 +56,7 @@ returns-in-Ok-clause-ran g c =
               device_is = refl;
               sound = loaded_sound g.met.D.Disk.laws c.in-Ok.state c.open_swept.new.disk c.in-Ok.ensures.held;
               history = record { start = refl; proper = call.0.trace.proper; run = call.0.trace.run };
-              images = kept_fronts g.met.D.Disk.laws (slots_elsewhere c.needed_files_stay.ensures.journals) c.open_swept.new.disk c.resume_to_end.new.disk
+              images = kept_prefixes g.met.D.Disk.laws (slots_elsewhere c.needed_files_stay.ensures.journals) c.open_swept.new.disk c.resume_to_end.new.disk
                   (g.R.Runner.list c.args.runner.now) (g.R.Runner.list c.resume_to_end.new.runner) (g.K.Sink.held c.args.sink.now)
                   (g.K.Sink.held c.resume_to_end.new.sink)
                   (begun d told) c.resume_to_end.result
@@ -111,7 +111,7 @@ returns-in-Err-clause-ran g c =
       record {
         answer = c.in-Err.answer;
         why = c.in-Err.ensures.answers;
-        told = c.tell-status.ensures.told;
+        is_printed = c.tell-status.ensures.is_printed;
         spared = c.open_swept.ensures.spared;
         images = c.open_swept.ensures.images;
         whole = c.open_swept.ensures.whole;
@@ -129,35 +129,35 @@ returns-in-Err-clause-disk g c = λ is.
     let printed : Printed = printed_of g.K.Sink.held g.K.Sink.faults c.args.sink.now c.tell-status.new.sink in
     c.in-Err.ensures.disk (ap Err ((tells printed c.tell-status.result c.in-Err.answer
     (inl (withheld_first (store_of g.D.Disk.is_modelled g.D.Disk.seen g.D.Disk.faults c.args.disk.now c.open_swept.new.disk) c.in-Err.answer
-    c.in-Err.ensures.answers)) c.tell-status.ensures.told).disk is))
+    c.in-Err.ensures.answers)) c.tell-status.ensures.is_printed).disk is))
 
 pub returns-in-Err-clause-edge : goal.returns-in-Err-clause-edge
 returns-in-Err-clause-edge g c =
     let printed : Printed = printed_of g.K.Sink.held g.K.Sink.faults c.args.sink.now c.tell-status.new.sink in
     (tells printed c.tell-status.result c.in-Err.answer
     (inl (withheld_first (store_of g.D.Disk.is_modelled g.D.Disk.seen g.D.Disk.faults c.args.disk.now c.open_swept.new.disk) c.in-Err.answer
-    c.in-Err.ensures.answers)) c.tell-status.ensures.told).edge
+    c.in-Err.ensures.answers)) c.tell-status.ensures.is_printed).edge
 
 pub returns-in-Err-clause-quiet_disk : goal.returns-in-Err-clause-quiet_disk
 returns-in-Err-clause-quiet_disk g c = λ other more.
     let printed : Printed = printed_of g.K.Sink.held g.K.Sink.faults c.args.sink.now c.tell-status.new.sink in
     c.in-Err.ensures.quiet (λ is. (tells printed c.tell-status.result c.in-Err.answer
     (inl (withheld_first (store_of g.D.Disk.is_modelled g.D.Disk.seen g.D.Disk.faults c.args.disk.now c.open_swept.new.disk) c.in-Err.answer
-    c.in-Err.ensures.answers)) c.tell-status.ensures.told).quiet other more (cc))
+    c.in-Err.ensures.answers)) c.tell-status.ensures.is_printed).quiet other more (cc))
 
 pub returns-in-Err-clause-quiet_sink : goal.returns-in-Err-clause-quiet_sink
 returns-in-Err-clause-quiet_sink g c =
     let printed : Printed = printed_of g.K.Sink.held g.K.Sink.faults c.args.sink.now c.tell-status.new.sink in
     (tells printed c.tell-status.result c.in-Err.answer
     (inl (withheld_first (store_of g.D.Disk.is_modelled g.D.Disk.seen g.D.Disk.faults c.args.disk.now c.open_swept.new.disk) c.in-Err.answer
-    c.in-Err.ensures.answers)) c.tell-status.ensures.told).quiet_sink
+    c.in-Err.ensures.answers)) c.tell-status.ensures.is_printed).quiet_sink
 
 pub returns-in-Err-clause-own : goal.returns-in-Err-clause-own
 returns-in-Err-clause-own g c =
     let printed : Printed = printed_of g.K.Sink.held g.K.Sink.faults c.args.sink.now c.tell-status.new.sink in
     (tells printed c.tell-status.result c.in-Err.answer
     (inl (withheld_first (store_of g.D.Disk.is_modelled g.D.Disk.seen g.D.Disk.faults c.args.disk.now c.open_swept.new.disk) c.in-Err.answer
-    c.in-Err.ensures.answers)) c.tell-status.ensures.told).library
+    c.in-Err.ensures.answers)) c.tell-status.ensures.is_printed).library
 
 pub returns-in-Err-clause-later : goal.returns-in-Err-clause-later
 returns-in-Err-clause-later g c = (
@@ -175,4 +175,4 @@ returns-in-Err-clause-swept g c =
     let printed : Printed = printed_of g.K.Sink.held g.K.Sink.faults c.args.sink.now c.tell-status.new.sink in
     told_sweeps g.D.Disk.is_modelled printed c.tell-status.result (g.D.Disk.seen c.open_swept.new.disk) c.in-Err.answer
     (inl (withheld_first (store_of g.D.Disk.is_modelled g.D.Disk.seen g.D.Disk.faults c.args.disk.now c.open_swept.new.disk) c.in-Err.answer
-    c.in-Err.ensures.answers)) c.tell-status.ensures.told
+    c.in-Err.ensures.answers)) c.tell-status.ensures.is_printed

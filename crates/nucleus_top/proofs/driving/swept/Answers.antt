@@ -1,6 +1,6 @@
 use Rattle.std.proofs.Common.{ap, subst}
 use Rattle.std.specs.Prelude.{Err}
-use Rattle.disk_model.specs.Disk.{Leaves}
+use Rattle.disk_model.specs.Disk.{HasLeft}
 use Rattle.disk_model.specs.Listing.{artifacts, IsBelow}
 use Rattle.device.specs.Devices.{Device, device_view}
 use Rattle.artifact_store.specs.Holding.{AllHoldDevice, HoldsDevice}
@@ -16,7 +16,7 @@ returns-in-Ok-clause-spared g c =
 
 pub returns-in-Ok-clause-safe : goal.returns-in-Ok-clause-safe
 returns-in-Ok-clause-safe g c =
-    subst (λ (d : Device). AllHoldDevice (g.D.Disk.may_leave c.args.disk.now) d → Leaves g.D.Disk.moment g.D.Disk.left_since c.args.disk.now c.sweep.new.disk
+    subst (λ (d : Device). AllHoldDevice (g.D.Disk.may_leave c.args.disk.now) d → HasLeft g.D.Disk.moment g.D.Disk.left_since c.args.disk.now c.sweep.new.disk
     (λ i. HoldsDevice i d)) c.stored.ensures c.sweep.ensures.safe
 
 pub returns-in-Ok-clause-others : goal.returns-in-Ok-clause-others
@@ -36,7 +36,7 @@ returns-in-Err-clause-spared g c =
 
 pub returns-in-Err-clause-safe : goal.returns-in-Err-clause-safe
 returns-in-Err-clause-safe g c =
-    subst (λ (d : Device). AllHoldDevice (g.D.Disk.may_leave c.args.disk.now) d → Leaves g.D.Disk.moment g.D.Disk.left_since c.args.disk.now c.sweep.new.disk
+    subst (λ (d : Device). AllHoldDevice (g.D.Disk.may_leave c.args.disk.now) d → HasLeft g.D.Disk.moment g.D.Disk.left_since c.args.disk.now c.sweep.new.disk
     (λ i. HoldsDevice i d)) c.stored.ensures c.sweep.ensures.safe
 
 pub returns-in-Err-clause-others : goal.returns-in-Err-clause-others

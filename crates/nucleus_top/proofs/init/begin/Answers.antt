@@ -2,7 +2,7 @@ use Rattle.std.proofs.Common.{Err, ap, inr, subst}
 use Rattle.command_words.specs.declared.order.Order.TheVariants.{Init}
 use Rattle.device.specs.Devices.{Device}
 use Rattle.deploy_state.specs.States.{idle_device}
-use Rattle.nucleus_top.specs.Opening.{Stands}
+use Rattle.nucleus_top.specs.Opening.{IsImageOf}
 use Rattle.nucleus_top.proofs.Images.{created, begun, held_stands, not_called}
 use Rattle.nucleus_top.proofs.init.begin.Goals as goal
 
@@ -13,7 +13,7 @@ returns-in-Ok-made-clause-comes g c =
       c.in-Ok.ensures,
       λ is_modelled. record {
         none = c.requires.none is_modelled;
-        stands = subst (λ (d : Device). Stands image d) c.in-Ok-made.ensures.made
+        stands = subst (λ (d : Device). IsImageOf image d) c.in-Ok-made.ensures.made
             (held_stands g.met.D.Disk.laws s.log c.create-made.new.disk (idle_device s) c.in-Ok-made.ensures.held.0 image
             (g.met.D.Disk.laws.reads c.create-made.new.disk is_modelled));
         others = c.create-made.ensures.others is_modelled;
@@ -27,7 +27,7 @@ returns-in-Ok-made-clause-moments g c =
 pub returns-in-Ok-made-clause-keeps : goal.returns-in-Ok-made-clause-keeps
 returns-in-Ok-made-clause-keeps g c = λ done image left.
     let s = c.in-Ok-made.idle in
-    subst (λ (d : Device). Stands image d) c.in-Ok-made.ensures.made
+    subst (λ (d : Device). IsImageOf image d) c.in-Ok-made.ensures.made
     (held_stands g.met.D.Disk.laws s.log c.create-made.new.disk (idle_device s) c.in-Ok-made.ensures.held.0 image left)
 
 pub returns-in-Disk-clause-comes : goal.returns-in-Disk-clause-comes

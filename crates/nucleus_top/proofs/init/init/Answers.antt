@@ -5,8 +5,8 @@ use Rattle.deploy_state.specs.States.{loaded_device}
 use Rattle.deploy_state.specs.declared.fault.LoadFault.{LoadFault}
 use Rattle.disk_model.specs.Disk.{Image}
 use Rattle.nucleus_top.specs.Answers.{Store, store_of}
-use Rattle.nucleus_top.specs.Inits.{Inits}
-use Rattle.nucleus_top.specs.Opening.{Opens}
+use Rattle.nucleus_top.specs.Inits.{InitAnswer}
+use Rattle.nucleus_top.specs.Opening.{OpenAnswer}
 use Rattle.nucleus_top.proofs.Faults.{refuses, refused_inits, refused_keeps, other_fault}
 use Rattle.nucleus_top.proofs.Images.{then_order, only_allowed, store_after}
 use Rattle.nucleus_top.proofs.InitEnds.{names_comes, names_keeps}
@@ -18,7 +18,7 @@ initialised_stored-requires g c = record { ready = c.in-Ok.ensures.ready }
 pub begin-requires-clause-none : goal.begin-requires-clause-none
 begin-requires-clause-none g c = λ is_modelled.
     let image = g.D.Disk.seen c.args.disk.now in
-    let none : slots_none image = subst (λ (f : LoadFault). Opens image (Err f)) c.in-NotInitialised.is (c.in-Err.ensures.told is_modelled) in
+    let none : slots_none image = subst (λ (f : LoadFault). OpenAnswer image (Err f)) c.in-NotInitialised.is (c.in-Err.ensures.told is_modelled) in
     subst slots_none (sym c.open.ensures.seen) none
 
 pub begin-requires-clause-settled : goal.begin-requires-clause-settled
@@ -46,7 +46,7 @@ returns-in-Ok-clause-quiet g c = λ other. c.in-Ok.ensures.quiet (λ is. cc)
 
 pub returns-in-NotInitialised-clause-comes : goal.returns-in-NotInitialised-clause-comes
 returns-in-NotInitialised-clause-comes g c =
-    subst (λ (s : Store). Inits c.args.origin s c.begin.result)
+    subst (λ (s : Store). InitAnswer c.args.origin s c.begin.result)
     (store_after g.D.Disk.is_modelled g.D.Disk.seen g.D.Disk.faults c.args.disk.now c.open.new.disk c.begin.new.disk c.open.ensures.seen
     (c.in-Err.ensures.quiet (λ is. cc)))
     c.begin.ensures.comes

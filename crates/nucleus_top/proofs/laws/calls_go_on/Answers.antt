@@ -1,18 +1,18 @@
 use Rattle.nucleus_top.proofs.Acknowledged.{deployed_stay, served_stay}
-use Rattle.nucleus_top.proofs.Series.{acknowledged_last, drives_end, drives_go_on, first_begins, turned_end, turned_go_on}
+use Rattle.nucleus_top.proofs.Series.{acknowledged_last, drives_end, drives_go_on, first_begins, refused_end, refused_go_on}
 use Rattle.nucleus_top.proofs.laws.calls_go_on.Goals as goal
 
 pub returns-clause-drives : goal.returns-clause-drives
 returns-clause-drives g c = drives_go_on g.met.D.Disk.laws
 
-pub returns-clause-turned : goal.returns-clause-turned
-returns-clause-turned g c = turned_go_on g.met.D.Disk.laws
+pub returns-clause-refused : goal.returns-clause-refused
+returns-clause-refused g c = refused_go_on g.met.D.Disk.laws
 
 pub returns-clause-drives_end : goal.returns-clause-drives_end
 returns-clause-drives_end g c = drives_end g.met.D.Disk.laws
 
-pub returns-clause-turned_end : goal.returns-clause-turned_end
-returns-clause-turned_end g c = turned_end g.met.D.Disk.laws
+pub returns-clause-refused_end : goal.returns-clause-refused_end
+returns-clause-refused_end g c = refused_end g.met.D.Disk.laws
 
 pub returns-clause-begins : goal.returns-clause-begins
 returns-clause-begins g c = first_begins g.met.D.Disk.laws

@@ -3,7 +3,7 @@ use Rattle.std.specs.Option.{IsSome}
 use Rattle.device.specs.Devices.{Device, IsRegularDevice}
 use Rattle.device.specs.Sound.{IsSound}
 use Rattle.nucleus_top.specs.Answers.{Input, Shelf, input_of, shelf_of}
-use Rattle.nucleus_top.specs.Planning.{PlansOn}
+use Rattle.nucleus_top.specs.Planning.{PlanAnswerOn}
 use Rattle.nucleus_top.proofs.planning.plan_stored.Goals as goal
 
 pub plan_on-requires-clause-origin : goal.plan_on-requires-clause-origin
@@ -19,7 +19,7 @@ pub returns-clause-comes : goal.returns-clause-comes
 returns-clause-comes g c =
     let input : Input = input_of g.S.Source.left g.S.Source.faults c.args.source.now c.plan_on.new.source in
     let library : Shelf = shelf_of g.L.Library.content g.L.Library.faults c.args.library.now c.plan_on.new.library in
-    subst (λ (d : Device). PlansOn d input library c.plan_on.result) c.stored.ensures c.plan_on.ensures.comes
+    subst (λ (d : Device). PlanAnswerOn d input library c.plan_on.result) c.stored.ensures c.plan_on.ensures.comes
 
 pub returns-clause-still : goal.returns-clause-still
 returns-clause-still g c = c.plan_on.ensures.still

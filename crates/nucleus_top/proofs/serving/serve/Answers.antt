@@ -12,7 +12,7 @@ use Rattle.session_serving.specs.Served.{IsWholeCall}
 use Rattle.nucleus_top.specs.Answers.{Printed, printed_of, store_of}
 use Rattle.nucleus_top.specs.Crashes.{AllowedOrPrefix}
 use Rattle.nucleus_top.specs.Serving.{on_disk, slots_ghosts}
-use Rattle.nucleus_top.proofs.Crashes.{loaded_origin, loaded_sound, loaded_stands, same_fronts}
+use Rattle.nucleus_top.proofs.Crashes.{loaded_origin, loaded_sound, loaded_stands, same_prefixes}
 use Rattle.nucleus_top.proofs.Driven.{begun_as, driven_on, slots_elsewhere, stays, stays_on, tells, withheld_first}
 use Rattle.nucleus_top.proofs.ServeEnds.{serving_begins, serving_meets, serving_most, serving_wholes, slots_own}
 use Rattle.nucleus_top.proofs.ServeOrder.{ends_in_order, told_in_order}
@@ -33,8 +33,8 @@ serve-requires-clause-own g c = slots_own
 pub serve-requires-clause-empty : goal.serve-requires-clause-empty
 serve-requires-clause-empty g c = ap (λ (w : Components). w.parts) c.new-supervisor.ensures
 
-pub serve-requires-clause-placed : goal.serve-requires-clause-placed
-serve-requires-clause-placed g c =
+pub serve-requires-clause-from_state : goal.serve-requires-clause-from_state
+serve-requires-clause-from_state g c =
     let told = Listed g.R.Runner.list g.R.Runner.told g.R.Runner.asked c.args.runner.now in
     let d = loaded_device c.in-Ok.state in (
       begun_as true c.args.turns d told,
@@ -45,7 +45,7 @@ pub returns-in-Ok-clause-ran : goal.returns-in-Ok-clause-ran
 returns-in-Ok-clause-ran g c =
     let told = Listed g.R.Runner.list g.R.Runner.told g.R.Runner.asked c.args.runner.now in
     let d = loaded_device c.in-Ok.state in
-    let place = begun_as true c.args.turns d told in
+    let state = begun_as true c.args.turns d told in
     let content = g.L.Library.content c.args.library.now in
     let mid = outside g.D.Disk g.K.Sink g.R.Runner g.L.Library g.I.Inbox c.open_swept.new.disk c.args.sink.now c.args.runner.now c.args.library.now
     c.args.inbox.now in
@@ -53,38 +53,38 @@ returns-in-Ok-clause-ran g c =
     c.args.inbox.now in
     let new = outside g.D.Disk g.K.Sink g.R.Runner g.L.Library g.I.Inbox c.serve.new.disk c.serve.new.sink c.serve.new.runner c.serve.new.library
     c.serve.new.inbox in
-    let call = c.serve.ensures.served place (serving_begins c.args.turns d c.new-supervisor.result told (g.R.Runner.living c.args.runner.now)
+    let call = c.serve.ensures.served state (serving_begins c.args.turns d c.new-supervisor.result told (g.R.Runner.living c.args.runner.now)
     c.new-supervisor.ensures c.requires.none) in
-    let whole : IsWholeCall g.D.Disk slots_ghosts (IsDeployedThere content) c.args.turns mid new place call.0 c.serve.result = call.1 in
+    let whole : IsWholeCall g.D.Disk slots_ghosts (IsDeployedThere content) c.args.turns mid new state call.0 c.serve.result = call.1 in
     let sound = loaded_sound g.met.D.Disk.laws c.in-Ok.state c.open_swept.new.disk c.in-Ok.ensures.held in
     let some = loaded_origin g.met.D.Disk.laws c.in-Ok.state c.open_swept.new.disk c.in-Ok.ensures.held in
     let most = serving_most g.D.Disk content mid new c.args.turns d told call.0 c.serve.result whole sound some in
     let start = on_disk c.open_swept.new.disk old in
-    let served : IsWholeCall g.D.Disk slots_ghosts (IsDeployedThere content) c.args.turns start new place call.0 c.serve.result =
-    subst (λ (n : ℕ). IsWholeCall g.D.Disk slots_ghosts (IsDeployedThere content) c.args.turns (record mid { faults = n }) new place call.0
+    let served : IsWholeCall g.D.Disk slots_ghosts (IsDeployedThere content) c.args.turns start new state call.0 c.serve.result =
+    subst (λ (n : ℕ). IsWholeCall g.D.Disk slots_ghosts (IsDeployedThere content) c.args.turns (record mid { faults = n }) new state call.0
     c.serve.result) (c.in-Ok.ensures.quiet (λ is. cc)) whole in
-    let lasting = told_in_order g.D.Disk content c.args.turns start new place call.0 c.serve.result served.parts most in
+    let lasting = told_in_order g.D.Disk content c.args.turns start new state call.0 c.serve.result served.parts most in
     let stands = loaded_stands g.met.D.Disk.laws c.in-Ok.state c.open_swept.new.disk c.in-Ok.ensures.held in
     inr (
       d,
       c.in-Ok.ensures.opened,
       record {
-        place = place;
+        state = state;
         serves = refl;
         turns_are = refl;
         history = call.0;
         driven = driven_on g.met.D.Disk.laws c.args.disk.now c.open_swept.new.disk c.serve.new.disk c.open_swept.ensures.spared
             (g.R.Runner.list c.args.runner.now) (g.R.Runner.list c.serve.new.runner)
             (printed_of g.K.Sink.held g.K.Sink.faults c.args.sink.now c.serve.new.sink) c.serve.result g.D.Disk.faults c.open_swept.ensures.later d
-            (same_fronts g.met.D.Disk.laws c.args.disk.now c.open_swept.new.disk d (λ is_modelled. (c.in-Ok.ensures.opened is_modelled).1)
+            (same_prefixes g.met.D.Disk.laws c.args.disk.now c.open_swept.new.disk d (λ is_modelled. (c.in-Ok.ensures.opened is_modelled).1)
             c.open_swept.ensures.images)
-            (λ is_modelled. (c.in-Ok.ensures.opened is_modelled).1) c.open_swept.ensures.whole place call.0
+            (λ is_modelled. (c.in-Ok.ensures.opened is_modelled).1) c.open_swept.ensures.whole state call.0
             (record {
               device_is = refl;
               sound = sound;
               history = record { start = refl; proper = whole.goes.proper; run = whole.goes.run };
               images = weaker g.met.D.Disk.laws c.open_swept.new.disk c.serve.new.disk _
-                  (AllowedOrPrefix (g.D.Disk.may_leave c.open_swept.new.disk) d (records_of call.0)) (λ image front. inr front) whole.goes.images;
+                  (AllowedOrPrefix (g.D.Disk.may_leave c.open_swept.new.disk) d (records_of call.0)) (λ image prefix. inr prefix) whole.goes.images;
               whole = held_whole g.met.D.Disk.laws c.open_swept.new.disk c.serve.new.disk d (records_of call.0) stands whole.goes.whole;
               met = serving_meets g.D.Disk content mid new c.args.turns d told call.0 c.serve.result whole sound some c.plans_are_met.ensures;
               stays = serving_wholes g.D.Disk content mid new c.args.turns d told call.0 c.serve.result whole sound some c.tree_laws.ensures.regular
@@ -95,9 +95,9 @@ returns-in-Ok-clause-ran g c =
         swept = c.in-Ok.ensures.clean;
         most = most;
         call = served;
-        in_order = ends_in_order g.D.Disk content c.args.turns start new place call.0 c.serve.result served.parts;
-        told = lasting.0;
-        told_are = lasting.1;
+        in_order = ends_in_order g.D.Disk content c.args.turns start new state call.0 c.serve.result served.parts;
+        printed_records = lasting.0;
+        printed_are = lasting.1;
         lasts = lasting.2;
       },
     )
@@ -136,7 +136,7 @@ returns-in-Err-clause-ran g c =
       record {
         answer = c.in-Err.answer;
         why = c.in-Err.ensures.answers;
-        told = c.tell-status.ensures.told;
+        is_printed = c.tell-status.ensures.is_printed;
         spared = c.open_swept.ensures.spared;
         images = c.open_swept.ensures.images;
         whole = c.open_swept.ensures.whole;
@@ -153,7 +153,7 @@ returns-in-Err-clause-caused g c =
     let printed : Printed = printed_of g.K.Sink.held g.K.Sink.faults c.args.sink.now c.tell-status.new.sink in
     let tell = tells printed c.tell-status.result c.in-Err.answer
     (inl (withheld_first (store_of g.D.Disk.is_modelled g.D.Disk.seen g.D.Disk.faults c.args.disk.now c.open_swept.new.disk) c.in-Err.answer
-    c.in-Err.ensures.answers)) c.tell-status.ensures.told in
+    c.in-Err.ensures.answers)) c.tell-status.ensures.is_printed in
     record {
       disk = λ is. c.in-Err.ensures.disk (ap Err (tell.disk is));
       edge = λ is. inl (tell.edge is);

@@ -3,15 +3,15 @@ use Rattle.std.proofs.KnownBytes.{Appends-nil}
 use Rattle.nuc_base.specs.declared.status.Status.TheVariants as status
 use Rattle.command_words.specs.declared.order.Order.TheVariants as orders
 use Rattle.admission.specs.declared.ask.Ask.{Ask}
-use Rattle.nucleus_top.specs.Asked.{AsksFor}
-use Rattle.nucleus_top.specs.Drives.{AsksTo, IsDeployed, IsRefusedBefore, TurnsAway}
+use Rattle.nucleus_top.specs.Asked.{AreWordsFor}
+use Rattle.nucleus_top.specs.Drives.{AsksTo, IsDeployed, IsRefusedBefore, MayNotDeploy}
 use Rattle.nucleus_top.specs.Serving.{IsServed}
 use Rattle.session_serving.specs.Parts.{Outside, outside}
 use Rattle.nucleus_top.specs.declared.asking.Asked.TheVariants as asked
 use Rattle.nucleus_top.specs.declared.answer.Answer.TheVariants as answer
 use Rattle.nucleus_top.specs.Answers.{Input, Printed, Shelf, Store, input_of, printed_of, shelf_of, store_of}
 use Rattle.nucleus_top.proofs.Crashes.{same_left}
-use Rattle.nucleus_top.proofs.DriveEnds.{deployed_is_on, pending_parts, refused_parts, resumed_is_on, served_is_on, starved, withholds_turns}
+use Rattle.nucleus_top.proofs.DriveEnds.{deployed_is_on, pending_parts, refused_parts, resumed_is_on, served_is_on, starved, withholds_refused}
 use Rattle.nucleus_top.proofs.Driven.{asks_one, no_quiet, no_quiet_deploy, not_both, serves_alone, serves_once, start_spared, stays, unasked_by}
 use Rattle.nucleus_top.proofs.Driven.{unread_drives, unread_parts}
 use Rattle.nucleus_top.proofs.Images.{by_none}
@@ -46,7 +46,7 @@ returns-in-NoMemory-clause-deploys g c = λ root asks. inl (
   record {
     answer = answer.NoMemory;
     why = inl refl;
-    told = inl (refl, Appends-nil (g.K.Sink.held c.args.sink.now), refl);
+    is_printed = inl (refl, Appends-nil (g.K.Sink.held c.args.sink.now), refl);
     spared = start_spared g.met.D.Disk.laws c.args.disk.now;
     images = same_left g.met.D.Disk.laws c.args.disk.now c.args.disk.now (at_start g.met.D.Disk.laws c.args.disk.now);
     whole = same_kept g.met.D.Disk.laws c.args.disk.now c.args.disk.now (at_start g.met.D.Disk.laws c.args.disk.now);
@@ -61,7 +61,7 @@ returns-in-NoMemory-clause-resumes g c = λ root asks. inl (
   record {
     answer = answer.NoMemory;
     why = inl refl;
-    told = inl (refl, Appends-nil (g.K.Sink.held c.args.sink.now), refl);
+    is_printed = inl (refl, Appends-nil (g.K.Sink.held c.args.sink.now), refl);
     spared = start_spared g.met.D.Disk.laws c.args.disk.now;
     images = same_left g.met.D.Disk.laws c.args.disk.now c.args.disk.now (at_start g.met.D.Disk.laws c.args.disk.now);
     whole = same_kept g.met.D.Disk.laws c.args.disk.now c.args.disk.now (at_start g.met.D.Disk.laws c.args.disk.now);
@@ -125,7 +125,7 @@ returns-in-Deploy-clause-deploys g c = λ what asks.
     let input : Input = input_of g.S.Source.left g.S.Source.faults c.args.source.now c.deploy.new.source in
     let library : Shelf = shelf_of g.L.Library.content g.L.Library.faults c.args.library.now c.deploy.new.library in
     let printed : Printed = printed_of g.K.Sink.held g.K.Sink.faults c.args.sink.now c.deploy.new.sink in
-    subst (λ (a : Ask). (IsRefusedBefore g.D.Disk.seen g.D.Disk.may_leave g.D.Disk.moment g.D.Disk.left_since (λ x. TurnsAway store input x) c.args.disk.now
+    subst (λ (a : Ask). (IsRefusedBefore g.D.Disk.seen g.D.Disk.may_leave g.D.Disk.moment g.D.Disk.left_since (λ x. MayNotDeploy store input x) c.args.disk.now
     c.deploy.new.disk printed c.deploy.result × (c.deploy.new.runner ≡ c.args.runner.now))
     ⊎ IsDeployed g.D.Disk.may_leave g.D.Disk.moment g.D.Disk.left_since g.D.Disk.faults c.args.disk.now c.deploy.new.disk (g.R.Runner.list c.args.runner.now)
     (g.R.Runner.list c.deploy.new.runner) printed c.deploy.result a store input library) same c.deploy.ensures.ran
@@ -170,31 +170,31 @@ returns-in-Deploy-clause-sink_later g c = c.deploy.ensures.later.1
 pub returns-in-Resume-clause-parts : goal.returns-in-Resume-clause-parts
 returns-in-Resume-clause-parts g c = λ other.
     let words : List (List ℕ) = map string_bytes c.args.words.now.items in
-    let asks : AsksFor words asked.Resume = c.in-Resume.ensures in
+    let asks : AreWordsFor words asked.Resume = c.in-Resume.ensures in
     absurd (other (inl (inr asks)))
 
 pub returns-in-Resume-clause-moments : goal.returns-in-Resume-clause-moments
 returns-in-Resume-clause-moments g c = λ other.
     let words : List (List ℕ) = map string_bytes c.args.words.now.items in
-    let asks : AsksFor words asked.Resume = c.in-Resume.ensures in
+    let asks : AreWordsFor words asked.Resume = c.in-Resume.ensures in
     absurd (other (inl (inr asks)))
 
 pub returns-in-Resume-clause-still : goal.returns-in-Resume-clause-still
 returns-in-Resume-clause-still g c = λ other.
     let words : List (List ℕ) = map string_bytes c.args.words.now.items in
-    let asks : AsksFor words asked.Resume = c.in-Resume.ensures in
+    let asks : AreWordsFor words asked.Resume = c.in-Resume.ensures in
     absurd (other (inl (inr asks)))
 
 pub returns-in-Resume-clause-durable : goal.returns-in-Resume-clause-durable
 returns-in-Resume-clause-durable g c = λ order quiet is.
     let words : List (List ℕ) = map string_bytes c.args.words.now.items in
-    let asks : AsksFor words asked.Resume = c.in-Resume.ensures in
+    let asks : AreWordsFor words asked.Resume = c.in-Resume.ensures in
     absurd (no_quiet c.words_ask_one_thing.ensures words asks.0 order orders.Resume (λ built. built) asks.1 quiet)
 
 pub returns-in-Resume-clause-others : goal.returns-in-Resume-clause-others
 returns-in-Resume-clause-others g c = λ order quiet told name outside.
     let words : List (List ℕ) = map string_bytes c.args.words.now.items in
-    let asks : AsksFor words asked.Resume = c.in-Resume.ensures in
+    let asks : AreWordsFor words asked.Resume = c.in-Resume.ensures in
     absurd (no_quiet c.words_ask_one_thing.ensures words asks.0 order orders.Resume (λ built. built) asks.1 quiet)
 
 pub returns-in-Resume-clause-resumes : goal.returns-in-Resume-clause-resumes
@@ -203,7 +203,7 @@ returns-in-Resume-clause-resumes g c = λ root is. c.resume.ensures.ran
 pub returns-in-Resume-clause-deploys : goal.returns-in-Resume-clause-deploys
 returns-in-Resume-clause-deploys g c = λ what is.
     let words : List (List ℕ) = map string_bytes c.args.words.now.items in
-    let asks : AsksFor words asked.Resume = c.in-Resume.ensures in
+    let asks : AreWordsFor words asked.Resume = c.in-Resume.ensures in
     absurd (not_both c.words_ask_one_thing.ensures words what asks.0 is asks.1)
 
 pub returns-in-Resume-clause-driven : goal.returns-in-Resume-clause-driven
@@ -232,91 +232,91 @@ returns-in-Resume-clause-sink_later g c = c.resume.ensures.later.1
 pub returns-in-Serve-clause-parts : goal.returns-in-Serve-clause-parts
 returns-in-Serve-clause-parts g c = λ other.
     let words : List (List ℕ) = map string_bytes c.args.words.now.items in
-    let asks : AsksFor words (asked.Serve c.in-Serve.turns) = c.in-Serve.ensures in
+    let asks : AreWordsFor words (asked.Serve c.in-Serve.turns) = c.in-Serve.ensures in
     absurd (other (inr (c.in-Serve.turns, asks)))
 
 pub returns-in-Serve-clause-unasked : goal.returns-in-Serve-clause-unasked
 returns-in-Serve-clause-unasked g c = λ other plan why.
     let words : List (List ℕ) = map string_bytes c.args.words.now.items in
-    let asks : AsksFor words (asked.Serve c.in-Serve.turns) = c.in-Serve.ensures in
+    let asks : AreWordsFor words (asked.Serve c.in-Serve.turns) = c.in-Serve.ensures in
     absurd (other (inr (c.in-Serve.turns, asks)))
 
 pub returns-in-Serve-clause-uninboxed : goal.returns-in-Serve-clause-uninboxed
 returns-in-Serve-clause-uninboxed g c = λ other.
     let words : List (List ℕ) = map string_bytes c.args.words.now.items in
-    let asks : AsksFor words (asked.Serve c.in-Serve.turns) = c.in-Serve.ensures in
+    let asks : AreWordsFor words (asked.Serve c.in-Serve.turns) = c.in-Serve.ensures in
     absurd (other (c.in-Serve.turns, asks))
 
 pub returns-in-Serve-clause-moments : goal.returns-in-Serve-clause-moments
 returns-in-Serve-clause-moments g c = λ other.
     let words : List (List ℕ) = map string_bytes c.args.words.now.items in
-    let asks : AsksFor words (asked.Serve c.in-Serve.turns) = c.in-Serve.ensures in
+    let asks : AreWordsFor words (asked.Serve c.in-Serve.turns) = c.in-Serve.ensures in
     absurd (other (inr (c.in-Serve.turns, asks)))
 
 pub returns-in-Serve-clause-still : goal.returns-in-Serve-clause-still
 returns-in-Serve-clause-still g c = λ other.
     let words : List (List ℕ) = map string_bytes c.args.words.now.items in
-    let asks : AsksFor words (asked.Serve c.in-Serve.turns) = c.in-Serve.ensures in
+    let asks : AreWordsFor words (asked.Serve c.in-Serve.turns) = c.in-Serve.ensures in
     absurd (other (inr (c.in-Serve.turns, asks)))
 
 pub returns-in-Serve-clause-disk_grows : goal.returns-in-Serve-clause-disk_grows
 returns-in-Serve-clause-disk_grows g c = λ other.
     let words : List (List ℕ) = map string_bytes c.args.words.now.items in
-    let asks : AsksFor words (asked.Serve c.in-Serve.turns) = c.in-Serve.ensures in
+    let asks : AreWordsFor words (asked.Serve c.in-Serve.turns) = c.in-Serve.ensures in
     absurd (other (inr (c.in-Serve.turns, asks)))
 
 pub returns-in-Serve-clause-sink_grows : goal.returns-in-Serve-clause-sink_grows
 returns-in-Serve-clause-sink_grows g c = λ other.
     let words : List (List ℕ) = map string_bytes c.args.words.now.items in
-    let asks : AsksFor words (asked.Serve c.in-Serve.turns) = c.in-Serve.ensures in
+    let asks : AreWordsFor words (asked.Serve c.in-Serve.turns) = c.in-Serve.ensures in
     absurd (other (inr (c.in-Serve.turns, asks)))
 
 pub returns-in-Serve-clause-durable : goal.returns-in-Serve-clause-durable
 returns-in-Serve-clause-durable g c = λ order quiet is.
     let words : List (List ℕ) = map string_bytes c.args.words.now.items in
-    let asks : AsksFor words (asked.Serve c.in-Serve.turns) = c.in-Serve.ensures in
+    let asks : AreWordsFor words (asked.Serve c.in-Serve.turns) = c.in-Serve.ensures in
     absurd (no_quiet c.words_ask_one_thing.ensures words asks.0 order (orders.Serve c.in-Serve.turns) (λ built. built) asks.1 quiet)
 
 pub returns-in-Serve-clause-others : goal.returns-in-Serve-clause-others
 returns-in-Serve-clause-others g c = λ order quiet told name outside.
     let words : List (List ℕ) = map string_bytes c.args.words.now.items in
-    let asks : AsksFor words (asked.Serve c.in-Serve.turns) = c.in-Serve.ensures in
+    let asks : AreWordsFor words (asked.Serve c.in-Serve.turns) = c.in-Serve.ensures in
     absurd (no_quiet c.words_ask_one_thing.ensures words asks.0 order (orders.Serve c.in-Serve.turns) (λ built. built) asks.1 quiet)
 
 pub returns-in-Serve-clause-alone : goal.returns-in-Serve-clause-alone
 returns-in-Serve-clause-alone g c = λ seed quiet.
     let words : List (List ℕ) = map string_bytes c.args.words.now.items in
-    let asks : AsksFor words (asked.Serve c.in-Serve.turns) = c.in-Serve.ensures in
+    let asks : AreWordsFor words (asked.Serve c.in-Serve.turns) = c.in-Serve.ensures in
     absurd (no_quiet c.words_ask_one_thing.ensures words asks.0 (orders.Workload seed) (orders.Serve c.in-Serve.turns) (λ built. built) asks.1 quiet)
 
 pub returns-in-Serve-clause-deploys : goal.returns-in-Serve-clause-deploys
 returns-in-Serve-clause-deploys g c = λ what is.
     let words : List (List ℕ) = map string_bytes c.args.words.now.items in
-    let asks : AsksFor words (asked.Serve c.in-Serve.turns) = c.in-Serve.ensures in
+    let asks : AreWordsFor words (asked.Serve c.in-Serve.turns) = c.in-Serve.ensures in
     absurd (serves_alone c.words_ask_one_thing.ensures words c.in-Serve.turns asks (inl (what, is)))
 
 pub returns-in-Serve-clause-resumes : goal.returns-in-Serve-clause-resumes
 returns-in-Serve-clause-resumes g c = λ root is.
     let words : List (List ℕ) = map string_bytes c.args.words.now.items in
-    let asks : AsksFor words (asked.Serve c.in-Serve.turns) = c.in-Serve.ensures in
+    let asks : AreWordsFor words (asked.Serve c.in-Serve.turns) = c.in-Serve.ensures in
     absurd (serves_alone c.words_ask_one_thing.ensures words c.in-Serve.turns asks (inr (root, is)))
 
 pub returns-in-Serve-clause-pending : goal.returns-in-Serve-clause-pending
 returns-in-Serve-clause-pending g c = λ deploys.
     let words : List (List ℕ) = map string_bytes c.args.words.now.items in
-    let asks : AsksFor words (asked.Serve c.in-Serve.turns) = c.in-Serve.ensures in
+    let asks : AreWordsFor words (asked.Serve c.in-Serve.turns) = c.in-Serve.ensures in
     absurd (serves_alone c.words_ask_one_thing.ensures words c.in-Serve.turns asks (inl deploys))
 
 pub returns-in-Serve-clause-driven : goal.returns-in-Serve-clause-driven
 returns-in-Serve-clause-driven g c = λ drives.
     let words : List (List ℕ) = map string_bytes c.args.words.now.items in
-    let asks : AsksFor words (asked.Serve c.in-Serve.turns) = c.in-Serve.ensures in
+    let asks : AreWordsFor words (asked.Serve c.in-Serve.turns) = c.in-Serve.ensures in
     absurd (serves_alone c.words_ask_one_thing.ensures words c.in-Serve.turns asks drives)
 
 pub returns-in-Serve-clause-serves : goal.returns-in-Serve-clause-serves
 returns-in-Serve-clause-serves g c = λ turns is.
     let words : List (List ℕ) = map string_bytes c.args.words.now.items in
-    let asks : AsksFor words (asked.Serve c.in-Serve.turns) = c.in-Serve.ensures in
+    let asks : AreWordsFor words (asked.Serve c.in-Serve.turns) = c.in-Serve.ensures in
     let same = serves_once c.words_ask_one_thing.ensures words c.in-Serve.turns turns asks is in
     let store : Store = store_of g.D.Disk.is_modelled g.D.Disk.seen g.D.Disk.faults c.args.disk.now c.serve.new.disk in
     let old : Outside _ = outside g.D.Disk g.K.Sink g.R.Runner g.L.Library g.I.Inbox c.args.disk.now c.args.sink.now c.args.runner.now c.args.library.now
@@ -351,7 +351,7 @@ returns-in-Serve-clause-read g c = reads_none 524289 (g.S.Source.left c.args.sou
 pub returns-in-Serve-clause-refused : goal.returns-in-Serve-clause-refused
 returns-in-Serve-clause-refused g c = λ drives.
     let words : List (List ℕ) = map string_bytes c.args.words.now.items in
-    let asks : AsksFor words (asked.Serve c.in-Serve.turns) = c.in-Serve.ensures in
+    let asks : AreWordsFor words (asked.Serve c.in-Serve.turns) = c.in-Serve.ensures in
     let store : Store = store_of g.D.Disk.is_modelled g.D.Disk.seen g.D.Disk.faults c.args.disk.now c.serve.new.disk in
     let input : Input = input_of g.S.Source.left g.S.Source.faults c.args.source.now c.args.source.now in
     let printed : Printed = printed_of g.K.Sink.held g.K.Sink.faults c.args.sink.now c.serve.new.sink in
@@ -360,7 +360,7 @@ returns-in-Serve-clause-refused g c = λ drives.
     let new : Outside _ = outside g.D.Disk g.K.Sink g.R.Runner g.L.Library g.I.Inbox c.serve.new.disk c.serve.new.sink c.serve.new.runner
     c.serve.new.library c.serve.new.inbox in
     refused_parts store input printed c.serve.result
-    (⊎_elim (λ away. inl (away.0.answer, withholds_turns store input away.0.answer away.0.why, away.0.told))
+    (⊎_elim (λ away. inl (away.0.answer, withholds_refused store input away.0.answer away.0.why, away.0.is_printed))
     (λ served. inr (served_is_on g.D.Disk (g.L.Library.content c.args.library.now) old new c.serve.result store c.in-Serve.turns served)) c.serve.ensures.ran)
 
 -- ---- the other commands do not serve
@@ -370,7 +370,7 @@ returns-in-NoMemory-clause-serves g c = λ turns asks. inl (
   record {
     answer = answer.NoMemory;
     why = inl refl;
-    told = inl (refl, Appends-nil (g.K.Sink.held c.args.sink.now), refl);
+    is_printed = inl (refl, Appends-nil (g.K.Sink.held c.args.sink.now), refl);
     spared = start_spared g.met.D.Disk.laws c.args.disk.now;
     images = same_left g.met.D.Disk.laws c.args.disk.now c.args.disk.now (at_start g.met.D.Disk.laws c.args.disk.now);
     whole = same_kept g.met.D.Disk.laws c.args.disk.now c.args.disk.now (at_start g.met.D.Disk.laws c.args.disk.now);
@@ -410,23 +410,23 @@ returns-in-Deploy-clause-causes g c = λ serves.
 pub returns-in-Resume-clause-serves : goal.returns-in-Resume-clause-serves
 returns-in-Resume-clause-serves g c = λ turns is.
     let words : List (List ℕ) = map string_bytes c.args.words.now.items in
-    let asks : AsksFor words asked.Resume = c.in-Resume.ensures in
+    let asks : AreWordsFor words asked.Resume = c.in-Resume.ensures in
     absurd (serves_alone c.words_ask_one_thing.ensures words turns is (inr asks))
 
 pub returns-in-Resume-clause-causes : goal.returns-in-Resume-clause-causes
 returns-in-Resume-clause-causes g c = λ serves.
     let words : List (List ℕ) = map string_bytes c.args.words.now.items in
-    let asks : AsksFor words asked.Resume = c.in-Resume.ensures in
+    let asks : AreWordsFor words asked.Resume = c.in-Resume.ensures in
     absurd (serves_alone c.words_ask_one_thing.ensures words serves.0 serves.1 (inr asks))
 
 pub returns-in-Other-clause-serves : goal.returns-in-Other-clause-serves
 returns-in-Other-clause-serves g c = λ turns is.
-    let asks : AsksFor (map string_bytes c.args.words.now.items) asked.Other = c.in-Other.ensures in
+    let asks : AreWordsFor (map string_bytes c.args.words.now.items) asked.Other = c.in-Other.ensures in
     absurd (asks (inr (turns, is)))
 
 pub returns-in-Other-clause-causes : goal.returns-in-Other-clause-causes
 returns-in-Other-clause-causes g c = λ serves.
-    let asks : AsksFor (map string_bytes c.args.words.now.items) asked.Other = c.in-Other.ensures in
+    let asks : AreWordsFor (map string_bytes c.args.words.now.items) asked.Other = c.in-Other.ensures in
     absurd (asks (inr serves))
 
 -- ---- another command
@@ -451,17 +451,17 @@ returns-in-Other-clause-others g c = c.look.ensures.others
 
 pub returns-in-Other-clause-deploys : goal.returns-in-Other-clause-deploys
 returns-in-Other-clause-deploys g c = λ what is.
-    let asks : AsksFor (map string_bytes c.args.words.now.items) asked.Other = c.in-Other.ensures in
+    let asks : AreWordsFor (map string_bytes c.args.words.now.items) asked.Other = c.in-Other.ensures in
     absurd (asks (inl (inl (what, is))))
 
 pub returns-in-Other-clause-resumes : goal.returns-in-Other-clause-resumes
 returns-in-Other-clause-resumes g c = λ root is.
-    let asks : AsksFor (map string_bytes c.args.words.now.items) asked.Other = c.in-Other.ensures in
+    let asks : AreWordsFor (map string_bytes c.args.words.now.items) asked.Other = c.in-Other.ensures in
     absurd (asks (inl (inr (root, is))))
 
 pub returns-in-Other-clause-driven : goal.returns-in-Other-clause-driven
 returns-in-Other-clause-driven g c = λ drives.
-    let asks : AsksFor (map string_bytes c.args.words.now.items) asked.Other = c.in-Other.ensures in
+    let asks : AreWordsFor (map string_bytes c.args.words.now.items) asked.Other = c.in-Other.ensures in
     absurd (asks (inl drives))
 
 pub returns-in-Other-clause-disk_later : goal.returns-in-Other-clause-disk_later
@@ -485,13 +485,13 @@ returns-in-Deploy-clause-sink_grows g c = λ other.
 pub returns-in-Resume-clause-disk_grows : goal.returns-in-Resume-clause-disk_grows
 returns-in-Resume-clause-disk_grows g c = λ other.
     let words : List (List ℕ) = map string_bytes c.args.words.now.items in
-    let asks : AsksFor words asked.Resume = c.in-Resume.ensures in
+    let asks : AreWordsFor words asked.Resume = c.in-Resume.ensures in
     absurd (other (inl (inr asks)))
 
 pub returns-in-Resume-clause-sink_grows : goal.returns-in-Resume-clause-sink_grows
 returns-in-Resume-clause-sink_grows g c = λ other.
     let words : List (List ℕ) = map string_bytes c.args.words.now.items in
-    let asks : AsksFor words asked.Resume = c.in-Resume.ensures in
+    let asks : AreWordsFor words asked.Resume = c.in-Resume.ensures in
     absurd (other (inl (inr asks)))
 
 pub returns-in-NoMemory-clause-disk_later : goal.returns-in-NoMemory-clause-disk_later
@@ -525,7 +525,7 @@ returns-in-Deploy-clause-refused g c = λ drives.
     let library : Shelf = shelf_of g.L.Library.content g.L.Library.faults c.args.library.now c.deploy.new.library in
     let printed : Printed = printed_of g.K.Sink.held g.K.Sink.faults c.args.sink.now c.deploy.new.sink in
     refused_parts store input printed c.deploy.result
-    (⊎_elim (λ away. inl (away.0.answer, away.0.why, away.0.told))
+    (⊎_elim (λ away. inl (away.0.answer, away.0.why, away.0.is_printed))
     (λ trace. inr (deployed_is_on g.D.Disk.may_leave g.D.Disk.moment g.D.Disk.left_since g.D.Disk.faults c.args.disk.now c.deploy.new.disk
     (g.R.Runner.list c.args.runner.now) (g.R.Runner.list c.deploy.new.runner) printed c.deploy.result store c.in-Deploy.what input library trace).0)
     c.deploy.ensures.ran)
@@ -537,7 +537,7 @@ returns-in-Deploy-clause-pending g c = λ deploys.
     let library : Shelf = shelf_of g.L.Library.content g.L.Library.faults c.args.library.now c.deploy.new.library in
     let printed : Printed = printed_of g.K.Sink.held g.K.Sink.faults c.args.sink.now c.deploy.new.sink in
     pending_parts store input printed c.deploy.result
-    (⊎_elim (λ away. inl (away.0.answer, away.0.why, away.0.told))
+    (⊎_elim (λ away. inl (away.0.answer, away.0.why, away.0.is_printed))
     (λ trace. inr (deployed_is_on g.D.Disk.may_leave g.D.Disk.moment g.D.Disk.left_since g.D.Disk.faults c.args.disk.now c.deploy.new.disk
     (g.R.Runner.list c.args.runner.now) (g.R.Runner.list c.deploy.new.runner) printed c.deploy.result store c.in-Deploy.what input library trace))
     c.deploy.ensures.ran)
@@ -548,24 +548,24 @@ returns-in-Resume-clause-refused g c = λ drives.
     let input : Input = input_of g.S.Source.left g.S.Source.faults c.args.source.now c.args.source.now in
     let printed : Printed = printed_of g.K.Sink.held g.K.Sink.faults c.args.sink.now c.resume.new.sink in
     refused_parts store input printed c.resume.result
-    (⊎_elim (λ away. inl (away.0.answer, withholds_turns store input away.0.answer away.0.why, away.0.told))
+    (⊎_elim (λ away. inl (away.0.answer, withholds_refused store input away.0.answer away.0.why, away.0.is_printed))
     (λ trace. inr (resumed_is_on g.D.Disk.may_leave g.D.Disk.moment g.D.Disk.left_since g.D.Disk.faults c.args.disk.now c.resume.new.disk
     (g.R.Runner.list c.args.runner.now) (g.R.Runner.list c.resume.new.runner) printed c.resume.result store trace)) c.resume.ensures.ran)
 
 pub returns-in-Resume-clause-pending : goal.returns-in-Resume-clause-pending
 returns-in-Resume-clause-pending g c = λ deploys.
     let words : List (List ℕ) = map string_bytes c.args.words.now.items in
-    let asks : AsksFor words asked.Resume = c.in-Resume.ensures in
+    let asks : AreWordsFor words asked.Resume = c.in-Resume.ensures in
     absurd (not_both c.words_ask_one_thing.ensures words deploys.0 asks.0 deploys.1 asks.1)
 
 pub returns-in-Other-clause-refused : goal.returns-in-Other-clause-refused
 returns-in-Other-clause-refused g c = λ drives.
-    let asks : AsksFor (map string_bytes c.args.words.now.items) asked.Other = c.in-Other.ensures in
+    let asks : AreWordsFor (map string_bytes c.args.words.now.items) asked.Other = c.in-Other.ensures in
     absurd (asks drives)
 
 pub returns-in-Other-clause-pending : goal.returns-in-Other-clause-pending
 returns-in-Other-clause-pending g c = λ deploys.
-    let asks : AsksFor (map string_bytes c.args.words.now.items) asked.Other = c.in-Other.ensures in
+    let asks : AreWordsFor (map string_bytes c.args.words.now.items) asked.Other = c.in-Other.ensures in
     absurd (asks (inl (inl deploys)))
 
 -- ---- what is read of the source
@@ -595,7 +595,7 @@ returns-in-Deploy-clause-alone g c = λ seed quiet.
 pub returns-in-Resume-clause-alone : goal.returns-in-Resume-clause-alone
 returns-in-Resume-clause-alone g c = λ seed quiet.
     let words : List (List ℕ) = map string_bytes c.args.words.now.items in
-    let asks : AsksFor words asked.Resume = c.in-Resume.ensures in
+    let asks : AreWordsFor words asked.Resume = c.in-Resume.ensures in
     absurd (no_quiet c.words_ask_one_thing.ensures words asks.0 (orders.Workload seed) orders.Resume (λ built. built) asks.1 quiet)
 
 pub returns-in-Other-clause-alone : goal.returns-in-Other-clause-alone

@@ -2,7 +2,7 @@ use Rattle.std.proofs.Common.{refl, Err, ap}
 use Rattle.command_words.specs.declared.order.Order.TheVariants as order
 use Rattle.deploy_state.specs.States.{loaded_device}
 use Rattle.nucleus_top.specs.Answers.{Store, Input, Shelf, store_of, input_of, shelf_of}
-use Rattle.nucleus_top.specs.Why.{WhysOn}
+use Rattle.nucleus_top.specs.Why.{WhyAnswerOn}
 use Rattle.nucleus_top.proofs.Faults.{refuses, refused_keeps, other_fault}
 use Rattle.nucleus_top.proofs.Looked.{found_looks, refused_looks}
 use Rattle.nucleus_top.proofs.Questions.{whys_none}
@@ -16,7 +16,7 @@ returns-in-Ok-clause-comes g c =
     let store : Store = store_of g.D.Disk.is_modelled g.D.Disk.seen g.D.Disk.faults c.args.disk.now c.open.new.disk in
     let input : Input = input_of g.S.Source.left g.S.Source.faults c.args.source.now c.why_stored.new.source in
     let library : Shelf = shelf_of g.L.Library.content g.L.Library.faults c.args.library.now c.why_stored.new.library in
-    found_looks (λ d. WhysOn d input library) store (whys_none input library store) (loaded_device c.in-Ok.state) c.why_stored.result
+    found_looks (λ d. WhyAnswerOn d input library) store (whys_none input library store) (loaded_device c.in-Ok.state) c.why_stored.result
     c.open.ensures.seen c.in-Ok.ensures.told c.why_stored.ensures.comes
 
 pub returns-in-Ok-clause-quiet : goal.returns-in-Ok-clause-quiet
@@ -39,7 +39,7 @@ returns-in-Err-clause-comes g c =
     let store : Store = store_of g.D.Disk.is_modelled g.D.Disk.seen g.D.Disk.faults c.args.disk.now c.open.new.disk in
     let input : Input = input_of g.S.Source.left g.S.Source.faults c.args.source.now c.args.source.now in
     let library : Shelf = shelf_of g.L.Library.content g.L.Library.faults c.args.library.now c.args.library.now in
-    refused_looks (λ d. WhysOn d input library) store c.refused.result (refuses store c.in-Err.fault c.refused.result c.refused.ensures c.open.ensures.seen
+    refused_looks (λ d. WhyAnswerOn d input library) store c.refused.result (refuses store c.in-Err.fault c.refused.result c.refused.ensures c.open.ensures.seen
     c.in-Err.ensures.told (λ is. c.in-Err.ensures.cause (ap Err is)))
 
 pub returns-in-Err-clause-quiet : goal.returns-in-Err-clause-quiet

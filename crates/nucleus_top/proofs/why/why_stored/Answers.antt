@@ -3,7 +3,7 @@ use Rattle.std.specs.Option.{IsSome}
 use Rattle.device.specs.Devices.{Device}
 use Rattle.device.specs.Sound.{IsSound}
 use Rattle.nucleus_top.specs.Answers.{Input, Shelf, input_of, shelf_of}
-use Rattle.nucleus_top.specs.Why.{WhysOn}
+use Rattle.nucleus_top.specs.Why.{WhyAnswerOn}
 use Rattle.nucleus_top.proofs.why.why_stored.Goals as goal
 
 pub why_on-requires-clause-origin : goal.why_on-requires-clause-origin
@@ -16,7 +16,7 @@ pub returns-clause-comes : goal.returns-clause-comes
 returns-clause-comes g c =
     let input : Input = input_of g.S.Source.left g.S.Source.faults c.args.source.now c.why_on.new.source in
     let library : Shelf = shelf_of g.L.Library.content g.L.Library.faults c.args.library.now c.why_on.new.library in
-    subst (λ (d : Device). WhysOn d input library c.why_on.result) c.stored.ensures c.why_on.ensures.comes
+    subst (λ (d : Device). WhyAnswerOn d input library c.why_on.result) c.stored.ensures c.why_on.ensures.comes
 
 pub returns-clause-still : goal.returns-clause-still
 returns-clause-still g c = c.why_on.ensures.still

@@ -4,7 +4,7 @@ use Rattle.device.specs.Devices.{Device}
 use Rattle.disk_model.specs.Memory.{seen_by}
 use Rattle.library_core.specs.Library.{Content}
 use Rattle.library_core.specs.Memory.{library_content}
-use Rattle.nucleus_top.specs.Workloads.{GoesThrough, IsBegunAs}
+use Rattle.nucleus_top.specs.Workloads.{DeviceAfterOne, IsBegunAs}
 use Rattle.nucleus_top.proofs.Through.{Goes, goes_more, goes_none, none_left, yielded_all, yielded_more}
 use Rattle.nucleus_top.proofs.workload_run.deploy_all.Goals as goal
 
@@ -24,7 +24,7 @@ loop-document-preserved c =
       kept = c.deploy_one.ensures.kept ∙ c.loop-document.invariant.kept;
       goes = goes_more content c.loop-document.yielded c.in-Some.document (seen_by c.args.disk.now) (seen_by c.loop-document.disk)
           (seen_by c.deploy_one.new.disk) c.loop-document.invariant.goes
-          (λ d begun. subst (λ (x : Content). (e : Device) × IsBegunAs (seen_by c.deploy_one.new.disk) e × GoesThrough x c.in-Some.document d e)
+          (λ d begun. subst (λ (x : Content). (e : Device) × IsBegunAs (seen_by c.deploy_one.new.disk) e × DeviceAfterOne x c.in-Some.document d e)
           c.loop-document.invariant.kept (c.deploy_one.ensures.through (sym c.wants_memory.ensures ∙ c.if-wants_memory.false) d begun));
       all = yielded_more c.loop-document.yielded (into_iter_items c.loop-document.document-iterator) (into_iter_items c.next.new.self) c.args.documents
           c.in-Some.document c.in-Some.ensures.steps.0 c.loop-document.invariant.all;

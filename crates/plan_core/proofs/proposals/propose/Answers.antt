@@ -3,7 +3,7 @@ use Rattle.std.specs.Prelude.{Err}
 use Rattle.records.specs.Stored.{item_view, draft_view}
 use Rattle.records.specs.declared.record.Origin.{Origin}
 use Rattle.device.specs.Devices.{device_view}
-use Rattle.plan_core.specs.Checks.{Proposes, AreCandidatesOf, facts}
+use Rattle.plan_core.specs.Checks.{DraftOfDocument, AreCandidatesOf, facts}
 use Rattle.plan_core.proofs.Opening.{items_of_sound, kept_read}
 use Rattle.plan_core.proofs.Proposing.{not_open, not_gathered, not_planned, no_draft}
 use Rattle.plan_core.proofs.proposals.propose.Goals as goal
@@ -29,7 +29,7 @@ returns-in_err-candidates-clause-proposes g c = λ o is.
     let here = not_gathered d c.in-Some.origin content before after c.args.document.now c.in_err-candidates.field-0.0 c.from_residual-in_err-candidates.result
     c.from_residual-in_err-candidates.ensures.1
     c.in_ok-open.ensures.0 c.in_ok-open.ensures.1 (λ e. c.in_err-candidates.ensures.cause (ap Err e)) c.in_err-candidates.ensures.gathered in
-    subst (λ (p : Origin). Proposes d p content before after c.args.document.now c.from_residual-in_err-candidates.result) same here
+    subst (λ (p : Origin). DraftOfDocument d p content before after c.args.document.now c.from_residual-in_err-candidates.result) same here
 
 pub returns-in_err-draft-clause-proposes : goal.returns-in_err-draft-clause-proposes
 returns-in_err-draft-clause-proposes g c = λ o is.
@@ -44,7 +44,7 @@ returns-in_err-draft-clause-proposes g c = λ o is.
     let here = not_planned d c.in-Some.origin content before after c.args.document.now cs c.in_err-draft.field-0.0 c.from_residual-in_err-draft.result
     c.from_residual-in_err-draft.ensures.1
     c.in_ok-open.ensures.0 c.in_ok-open.ensures.1 gathered (c.in_err-draft.ensures c.in-Some.origin c.in-Some.is) in
-    subst (λ (p : Origin). Proposes d p content before after c.args.document.now c.from_residual-in_err-draft.result) same here
+    subst (λ (p : Origin). DraftOfDocument d p content before after c.args.document.now c.from_residual-in_err-draft.result) same here
 
 pub returns-clause-proposes : goal.returns-clause-proposes
 returns-clause-proposes g c = λ o is.

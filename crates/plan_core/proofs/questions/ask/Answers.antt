@@ -4,7 +4,7 @@ use Rattle.records.specs.Stored.{item_view}
 use Rattle.records.specs.declared.record.Origin.{Origin}
 use Rattle.device.specs.Devices.{device_view}
 use Rattle.plan_core.specs.Checks.{AreCandidatesOf, facts}
-use Rattle.plan_core.specs.Questions.{Questions}
+use Rattle.plan_core.specs.Questions.{QuestionOfDocument}
 use Rattle.plan_core.specs.declared.fault.Refusal.{Refusal}
 use Rattle.plan_core.specs.declared.questions.Question.{Question}
 use Rattle.plan_core.proofs.Opening.{items_of_sound, kept_read}
@@ -33,7 +33,7 @@ returns-in_err-candidates-clause-asks g c = λ o is.
     let here = not_gathered d c.in-Some.origin content before after c.args.document.now c.in_err-candidates.field-0.0 c.from_residual-in_err-candidates.result
     c.from_residual-in_err-candidates.ensures.1
     c.in_ok-open.ensures.0 c.in_ok-open.ensures.1 (λ e. c.in_err-candidates.ensures.cause (ap Err e)) c.in_err-candidates.ensures.gathered in
-    subst (λ (p : Origin). Questions d p content before after c.args.document.now c.from_residual-in_err-candidates.result) same here
+    subst (λ (p : Origin). QuestionOfDocument d p content before after c.args.document.now c.from_residual-in_err-candidates.result) same here
 
 pub returns-in_err-check_room-clause-asks : goal.returns-in_err-check_room-clause-asks
 returns-in_err-check_room-clause-asks g c = λ o is.
@@ -48,7 +48,7 @@ returns-in_err-check_room-clause-asks g c = λ o is.
     let here = no_room d c.in-Some.origin content before after c.args.document.now cs c.in_err-check_room.field-0.0 c.from_residual-in_err-check_room.result
     c.from_residual-in_err-check_room.ensures.1
     c.in_ok-open.ensures.0 c.in_ok-open.ensures.1 gathered c.in_err-check_room.ensures in
-    subst (λ (p : Origin). Questions d p content before after c.args.document.now c.from_residual-in_err-check_room.result) same here
+    subst (λ (p : Origin). QuestionOfDocument d p content before after c.args.document.now c.from_residual-in_err-check_room.result) same here
 
 pub returns-in_err-wanted-clause-asks : goal.returns-in_err-wanted-clause-asks
 returns-in_err-wanted-clause-asks g c = λ o is.
@@ -66,7 +66,7 @@ returns-clause-asks g c = λ o is.
     let same : c.in-Some.origin ≡ o = cc in
     let gathered : AreCandidatesOf (facts d c.in-Some.origin content before after c.args.document.now cs no_draft) =
     record { gathered = c.in_ok-candidates.ensures.read; kept = c.in_ok-candidates.ensures.kept_bytes; told = c.in_ok-candidates.ensures.gathered } in
-    let here : Questions d c.in-Some.origin content before after c.args.document.now made = (
+    let here : QuestionOfDocument d c.in-Some.origin content before after c.args.document.now made = (
       cs,
       no_draft,
       (
@@ -75,4 +75,4 @@ returns-clause-asks g c = λ o is.
         (c.in_ok-open.ensures.0, (c.in_ok-open.ensures.1, (gathered, (c.in_ok-check_room.ensures, tt)))),
       ),
     ) in
-    subst (λ (p : Origin). Questions d p content before after c.args.document.now made) same here
+    subst (λ (p : Origin). QuestionOfDocument d p content before after c.args.document.now made) same here

@@ -1,5 +1,5 @@
 use Rattle.std.proofs.Common.{[], ◌+◌, map, drop, subst}
-use Rattle.nuc_base.specs.Tables.{AllHold, Faults, each}
+use Rattle.nuc_base.specs.Tables.{AllHold, IsFaultBy, each}
 use Rattle.nuc_base.proofs.Tables.{map_next, map_end}
 use Rattle.records.specs.Stored.{item_view}
 use Rattle.plan_core.specs.Plans.{config_lines}
@@ -18,7 +18,7 @@ returns-in_err-check_config c =
     let all = map item_view xs in
     let rest = map item_view (drop (i + 1) xs) in
     let f = c.in_err-check_config.field-0.0 in
-    handed (λ _. AllHold (each config_lines all)) (Faults fault.NoMemory (each config_lines all)) c.from_residual.result f c.from_residual.ensures.1
+    handed (λ _. AllHold (each config_lines all)) (IsFaultBy fault.NoMemory (each config_lines all)) c.from_residual.result f c.from_residual.ensures.1
     (checked_fault all rest (item_view x) f (subst (Checked all) (map_next item_view xs i x c.loop-item-test.true c.item-item.is) c.loop-item.invariant)
     c.in_err-check_config.ensures)
 

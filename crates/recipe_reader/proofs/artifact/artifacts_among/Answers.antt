@@ -1,6 +1,6 @@
 use Rattle.std.proofs.Common.{◌≡◌, ◌<◌, ◌≤◌, ◌+◌, ◌∷◌, [], List, length, map, drop, sym, subst, ap, arith}
 use Rattle.std.specs.List.{AllZip}
-use Rattle.nuc_base.specs.Tables.{AllHold, Faults}
+use Rattle.nuc_base.specs.Tables.{AllHold, IsFaultBy}
 use Rattle.nuc_base.specs.declared.artifact.Artifact.{Artifact}
 use Rattle.nuc_base.proofs.Tables.{handed_on, map_next, map_end}
 use Rattle.tree_core.specs.View.{view, items_view}
@@ -52,12 +52,12 @@ returns-in_err-artifact c =
     let below : i < length xs = omega arith in
     let next : map view (drop i xs) ≡ view x ∷ map view (drop (i + 1) xs) = map_next view xs i x below c.value-item.is in
     let l : Lists (map view xs) (view x ∷ map view (drop (i + 1) xs)) done = subst (λ ms. Lists (map view xs) ms done) next c.loop-value.invariant in
-    let here : Faults NoMemory (next_lines done (view x)) f = subst (λ (ys : List Artifact). Faults NoMemory (next_lines ys (view x)) f)
+    let here : IsFaultBy NoMemory (next_lines done (view x)) f = subst (λ (ys : List Artifact). IsFaultBy NoMemory (next_lines ys (view x)) f)
     c.as_slice.ensures.value c.in_err-artifact.ensures in
     let all : map view xs ≡ map view c.args.values.now.items = ap (map view) c.deref-value-items.ensures.value in
     handed_on NoMemory (listed_lines [] (map view c.args.values.now.items)) (AllZip IsArtifact (map view c.args.values.now.items)) _ f
     c.from_residual-in_err-artifact.ensures.1
-    (subst (λ ms. Faults NoMemory (listed_lines [] ms) f) all (lists_fault (map view xs) (view x) (map view (drop (i + 1) xs)) done l f here))
+    (subst (λ ms. IsFaultBy NoMemory (listed_lines [] ms) f) all (lists_fault (map view xs) (view x) (map view (drop (i + 1) xs)) done l f here))
 
 pub returns : goal.returns
 returns c =

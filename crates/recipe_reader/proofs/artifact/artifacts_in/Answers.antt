@@ -5,7 +5,7 @@ use Rattle.serde_json.specs.Data.{Data}
 use Rattle.tree_core.specs.View.{view}
 use Rattle.tree_core.specs.Parts.{values, check, IsList}
 use Rattle.tree_core.proofs.Seen.{is_list, values_are}
-use Rattle.nuc_base.specs.Tables.{Answers}
+use Rattle.nuc_base.specs.Tables.{AnswerBy}
 use Rattle.nuc_base.proofs.Tables.{answers_after}
 use Rattle.recipe_reader.specs.Artifacts.{listed_lines, IsArtifact}
 use Rattle.recipe_reader.specs.declared.fault.RecipeFault.TheVariants.{NoMemory, WrongKind, TooMany}
@@ -24,8 +24,8 @@ returns c =
     let all : values v ≡ map view c.in-Items.items.items = values_are _ c.in-Items.items c.in-Items.is in
     let long : length (values v) ≡ length c.in-Items.items.items = ap length all ∙ length-map c.in-Items.items.items view in
     let short : length (values v) ≤ 64 = omega arith in
-    let whole : Answers NoMemory (listed_lines [] (values v)) (AllZip IsArtifact (values v)) c.artifacts_among.result =
-    subst (λ (ms : List Data). Answers NoMemory (listed_lines [] ms) (AllZip IsArtifact ms) c.artifacts_among.result) (sym all) c.artifacts_among.ensures in
+    let whole : AnswerBy NoMemory (listed_lines [] (values v)) (AllZip IsArtifact (values v)) c.artifacts_among.result =
+    subst (λ (ms : List Data). AnswerBy NoMemory (listed_lines [] ms) (AllZip IsArtifact ms) c.artifacts_among.result) (sym all) c.artifacts_among.ensures in
     answers_after NoMemory (check (IsList v) (WrongKind Artifacts) ++ check (length (values v) ≤ 64) (TooMany Artifacts))
     (listed_lines [] (values v))
     (AllZip IsArtifact (values v))

@@ -6,7 +6,7 @@ use Rattle.tree_core.specs.View.{view, field_view}
 use Rattle.tree_core.specs.Parts.{members, IsObject, check}
 use Rattle.tree_core.proofs.Seen.{is_object, members_are}
 use Rattle.nuc_base.proofs.Tables.{answers_after}
-use Rattle.nuc_base.specs.Tables.{Answers, each}
+use Rattle.nuc_base.specs.Tables.{AnswerBy, each}
 use Rattle.recipe_reader.specs.Dependencies.{dependency_lines, IsDependency}
 use Rattle.recipe_reader.specs.declared.fault.RecipeFault.TheVariants.{NoMemory, WrongKind, TooMany}
 use Rattle.recipe_reader.specs.declared.fault.Key.TheVariants.{ComponentDependencies}
@@ -24,8 +24,8 @@ returns c =
     let all = members_are _ c.in-Fields.fields c.in-Fields.is in
     let long : length (members v) ≡ length c.in-Fields.fields.items = ap length all ∙ length-map c.in-Fields.fields.items field_view in
     let short : length (members v) ≤ 64 = omega arith in
-    let whole : Answers NoMemory (each dependency_lines (members v)) (AllZip IsDependency (members v)) c.dependencies_among.result =
-    subst (λ (ms : List (List ℕ × Data)). Answers NoMemory (each dependency_lines ms) (AllZip IsDependency ms) c.dependencies_among.result)
+    let whole : AnswerBy NoMemory (each dependency_lines (members v)) (AllZip IsDependency (members v)) c.dependencies_among.result =
+    subst (λ (ms : List (List ℕ × Data)). AnswerBy NoMemory (each dependency_lines ms) (AllZip IsDependency ms) c.dependencies_among.result)
     (sym all) c.dependencies_among.ensures in
     answers_after NoMemory (check (IsObject v) (WrongKind ComponentDependencies) ++ check (length (members v) ≤ 64) (TooMany ComponentDependencies))
     (each dependency_lines (members v))

@@ -1,6 +1,6 @@
 use Rattle.std.proofs.Common.{◌≡◌, Option, Some, None, subst}
 use Rattle.serde_json.specs.Data.{Data}
-use Rattle.nuc_base.specs.Tables.{Answers, AllHold, on}
+use Rattle.nuc_base.specs.Tables.{AnswerBy, AllHold, on}
 use Rattle.nuc_base.proofs.Tables.{answers_after, fault_before, all_both, handed_on}
 use Rattle.tree_core.specs.View.{view}
 use Rattle.tree_core.specs.Parts.{optional}
@@ -20,7 +20,7 @@ returns-in-Some c =
     let is : Some (view c.in-Some.manifest.now) ≡ manifest_of p v = h.1.0 in
     answers_after NoMemory (optional (spelled Manifests) v (manifests_lines p)) (on (manifest_of p v) chosen_lines) (IsChosen (manifest_of p v))
     c.chosen_in.result h.0
-    (subst (λ (m : Option Data). Answers NoMemory (on m chosen_lines) (IsChosen m) c.chosen_in.result) is c.chosen_in.ensures)
+    (subst (λ (m : Option Data). AnswerBy NoMemory (on m chosen_lines) (IsChosen m) c.chosen_in.result) is c.chosen_in.ensures)
 
 pub returns-in-None : goal.returns-in-None
 returns-in-None c =

@@ -1,9 +1,9 @@
 use Rattle.std.proofs.Common.{◌≡◌, ◌∙◌, ◌<◌, ◌+◌, ◌∷◌, List, true, false, Some, length, map, drop, sym, subst, ap, arith}
 use Rattle.tree_core.specs.View.{view, items_view}
 use Rattle.tree_core.specs.declared.tree.Tree.{Tree}
-use Rattle.nuc_base.specs.Tables.{AllHold, Faults}
+use Rattle.nuc_base.specs.Tables.{AllHold, IsFaultBy}
 use Rattle.nuc_base.proofs.Tables.{handed_on, map_next}
-use Rattle.recipe_reader.specs.Found.{Finds}
+use Rattle.recipe_reader.specs.Found.{IsSeenAs}
 use Rattle.recipe_reader.specs.Platforms.{walk_lines, chosen, matches}
 use Rattle.recipe_reader.specs.declared.fault.RecipeFault.TheVariants.{NoMemory}
 use Rattle.recipe_reader.proofs.Walks.{Walks, walks_next, walks_fault, walks_found}
@@ -21,9 +21,9 @@ returns-in_err-manifest_fits c =
     let w : Walks p (map view xs) (view x ∷ map view (drop (i + 1) xs)) = subst (Walks p (map view xs)) next c.loop-manifest.invariant in
     let f = c.in_err-manifest_fits.field-0.0 in
     let all : map view xs ≡ map view c.args.manifests.now.items = ap (map view) c.deref-manifest-items.ensures.value in
-    handed_on NoMemory (walk_lines p (map view c.args.manifests.now.items)) (Finds (λ t. view t.now) (chosen p (map view c.args.manifests.now.items))) _ f
+    handed_on NoMemory (walk_lines p (map view c.args.manifests.now.items)) (IsSeenAs (λ t. view t.now) (chosen p (map view c.args.manifests.now.items))) _ f
     c.from_residual.ensures.1
-    (subst (λ ms. Faults NoMemory (walk_lines p ms) f) all (walks_fault p (map view xs) (view x) (map view (drop (i + 1) xs)) w f
+    (subst (λ ms. IsFaultBy NoMemory (walk_lines p ms) f) all (walks_fault p (map view xs) (view x) (map view (drop (i + 1) xs)) w f
     c.in_err-manifest_fits.ensures))
 
 pub returns-then-branch : goal.returns-then-branch

@@ -7,7 +7,7 @@ pub blanks-preserved : goal.blanks-preserved
 blanks-preserved c =
     let h = c.in-Some.ensures in
     record {
-      text = c.blanks.invariant.text ∙ ap trim_end h.2 ∙ end_step c.in-Some.front.now h.0 h.1;
+      text = c.blanks.invariant.text ∙ ap trim_end h.2 ∙ end_step c.in-Some.prefix.now h.0 h.1;
       utf8 = search rules;
     }
 

@@ -7,9 +7,9 @@ use Rattle.refusal_lines.specs.Statuses.{status_of_outcome}
 use Rattle.deploy_state.specs.States.{idle_device}
 use Rattle.step_runner.specs.Entries.{Listed}
 use Rattle.session_rollout.specs.Driven.{generation_left}
-use Rattle.session.specs.Calls.{EndsClosed, SaysEnding}
-use Rattle.session.specs.Endings.{Fails}
-use Rattle.session.proofs.Places.{closed_returned}
+use Rattle.session.specs.Calls.{CloseEnding, SaysEnding}
+use Rattle.session.specs.Endings.{ByDiskFault}
+use Rattle.session.proofs.States.{closed_returned}
 use Rattle.session.proofs.Returning.{came_ends, came_held, generation_by, status_came}
 use Rattle.session.proofs.Statuses.{closed_no_restart}
 use Rattle.session.proofs.closes.end_closed.Goals as goal
@@ -17,9 +17,9 @@ use Rattle.session.proofs.closes.end_closed.Goals as goal
 pub back_or_over-requires-clause-other : goal.back_or_over-requires-clause-other
 back_or_over-requires-clause-other g c = closed_no_restart c.args.outcome c.sweep_behind-status.result c.sweep_behind-status.ensures.answers
 
-pub back_or_over-requires-clause-placed : goal.back_or_over-requires-clause-placed
-back_or_over-requires-clause-placed g c =
-    let q = c.requires.placed in
+pub back_or_over-requires-clause-from_state : goal.back_or_over-requires-clause-from_state
+back_or_over-requires-clause-from_state g c =
+    let q = c.requires.from_state in
     let d = idle_device c.args.idle in
     let told = Listed g.R.Runner.list g.R.Runner.told g.R.Runner.asked c.args.runner.now in (
       q.0,
@@ -49,7 +49,7 @@ returns-clause-held g c =
 pub returns-clause-ends : goal.returns-clause-ends
 returns-clause-ends g c =
     subst (λ (s : Status). SaysEnding (g.K.Sink.held c.args.sink.now) (g.K.Sink.held c.sweep_behind-status.new.sink) s
-    (λ e. EndsClosed c.args.outcome e × (e ≡ Fails → Rose (g.D.Disk.faults c.args.disk.now) (g.D.Disk.faults c.sweep_behind-status.new.disk))))
+    (λ e. CloseEnding c.args.outcome e × (e ≡ ByDiskFault → Rose (g.D.Disk.faults c.args.disk.now) (g.D.Disk.faults c.sweep_behind-status.new.disk))))
     (sym (status_came c.args.idle c.sweep_behind-status.result c.standing_of.result c.back_or_over.result c.back_or_over.ensures.exact))
     c.sweep_behind-status.ensures.ends
 

@@ -1,13 +1,13 @@
 use Rattle.std.specs.Prelude.{Err}
 use Rattle.std.proofs.Common.{◌∙◌, ap, inl, inr, refl, sym, subst}
-use Rattle.disk_model.specs.Disk.{Leaves}
+use Rattle.disk_model.specs.Disk.{HasLeft}
 use Rattle.disk_model.specs.Listing.{artifacts, IsBelow}
 use Rattle.nuc_base.specs.declared.status.Status.TheVariants as statuses
 use Rattle.device.specs.Devices.{Device, device_view}
 use Rattle.artifact_store.specs.Holding.{AllHoldDevice, HoldsDevice}
 use Rattle.artifact_store.specs.Swept.{IsStray, IsSwept, items_of}
 use Rattle.artifact_store.proofs.Walking.{wider_spares}
-use Rattle.session.specs.Endings.{Closes, Fails, Forgets}
+use Rattle.session.specs.Endings.{ByClose, ByDiskFault, WantAfter}
 use Rattle.session.proofs.Printing.{says_none}
 use Rattle.session.proofs.Statuses.{no_outcome}
 use Rattle.session.proofs.Sweeping.{no_close}
@@ -21,7 +21,7 @@ returns-in-Ok-clause-spared g c = wider_spares g.met.D.Disk.laws (IsStray (items
 
 pub returns-in-Ok-clause-safe : goal.returns-in-Ok-clause-safe
 returns-in-Ok-clause-safe g c =
-    subst (λ (d : Device). AllHoldDevice (g.D.Disk.may_leave c.args.disk.now) d → Leaves g.D.Disk.moment g.D.Disk.left_since c.args.disk.now c.sweep.new.disk
+    subst (λ (d : Device). AllHoldDevice (g.D.Disk.may_leave c.args.disk.now) d → HasLeft g.D.Disk.moment g.D.Disk.left_since c.args.disk.now c.sweep.new.disk
     (λ i. HoldsDevice i d)) c.device.ensures c.sweep.ensures.safe
 
 pub returns-in-Ok-clause-others : goal.returns-in-Ok-clause-others
@@ -29,7 +29,7 @@ returns-in-Ok-clause-others g c = λ told name spared. c.sweep.ensures.others to
 
 pub returns-in-Ok-clause-ends : goal.returns-in-Ok-clause-ends
 returns-in-Ok-clause-ends g c = (
-  Closes c.args.outcome,
+  ByClose c.args.outcome,
   (inl refl, λ fails. absurd cc),
   says_none (g.K.Sink.held c.args.sink.now) (g.K.Sink.held c.args.sink.now) c.outcome_status.result refl,
   inl c.outcome_status.ensures,
@@ -52,7 +52,7 @@ returns-in-Err-Disk-clause-spared g c = wider_spares g.met.D.Disk.laws (IsStray 
 
 pub returns-in-Err-Disk-clause-safe : goal.returns-in-Err-Disk-clause-safe
 returns-in-Err-Disk-clause-safe g c =
-    subst (λ (d : Device). AllHoldDevice (g.D.Disk.may_leave c.args.disk.now) d → Leaves g.D.Disk.moment g.D.Disk.left_since c.args.disk.now c.sweep.new.disk
+    subst (λ (d : Device). AllHoldDevice (g.D.Disk.may_leave c.args.disk.now) d → HasLeft g.D.Disk.moment g.D.Disk.left_since c.args.disk.now c.sweep.new.disk
     (λ i. HoldsDevice i d)) c.device.ensures c.sweep.ensures.safe
 
 pub returns-in-Err-Disk-clause-others : goal.returns-in-Err-Disk-clause-others
@@ -60,7 +60,7 @@ returns-in-Err-Disk-clause-others g c = λ told name spared. c.sweep.ensures.oth
 
 pub returns-in-Err-Disk-clause-ends : goal.returns-in-Err-Disk-clause-ends
 returns-in-Err-Disk-clause-ends g c = (
-  Fails,
+  ByDiskFault,
   (inr (inr refl), λ fails. c.in-Err-Disk.ensures.cause (ap Err c.in-Err-Disk.field-0-is)),
   c.say_disk.ensures.says,
   c.say_disk.ensures.answers,
@@ -74,7 +74,7 @@ returns-in-Err-NoMemory-clause-spared g c = wider_spares g.met.D.Disk.laws (IsSt
 
 pub returns-in-Err-NoMemory-clause-safe : goal.returns-in-Err-NoMemory-clause-safe
 returns-in-Err-NoMemory-clause-safe g c =
-    subst (λ (d : Device). AllHoldDevice (g.D.Disk.may_leave c.args.disk.now) d → Leaves g.D.Disk.moment g.D.Disk.left_since c.args.disk.now c.sweep.new.disk
+    subst (λ (d : Device). AllHoldDevice (g.D.Disk.may_leave c.args.disk.now) d → HasLeft g.D.Disk.moment g.D.Disk.left_since c.args.disk.now c.sweep.new.disk
     (λ i. HoldsDevice i d)) c.device.ensures c.sweep.ensures.safe
 
 pub returns-in-Err-NoMemory-clause-others : goal.returns-in-Err-NoMemory-clause-others
@@ -82,7 +82,7 @@ returns-in-Err-NoMemory-clause-others g c = λ told name spared. c.sweep.ensures
 
 pub returns-in-Err-NoMemory-clause-ends : goal.returns-in-Err-NoMemory-clause-ends
 returns-in-Err-NoMemory-clause-ends g c =
-    (Forgets, (inr (inl refl), λ fails. absurd cc), says_none (g.K.Sink.held c.args.sink.now) (g.K.Sink.held c.args.sink.now) statuses.Memory refl, inl refl)
+    (WantAfter, (inr (inl refl), λ fails. absurd cc), says_none (g.K.Sink.held c.args.sink.now) (g.K.Sink.held c.args.sink.now) statuses.Memory refl, inl refl)
 
 -- ---- no stray file is left
 

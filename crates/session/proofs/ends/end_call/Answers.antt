@@ -4,7 +4,7 @@ use Rattle.nuc_base.specs.declared.status.Status.TheVariants as statuses
 use Rattle.artifact_store.proofs.Walking.{start_spares}
 use Rattle.session_boots.specs.declared.ends.SessionFault.TheVariants as over
 use Rattle.session.proofs.Printing.{says_none}
-use Rattle.session.specs.Endings.{Breaks, Fails}
+use Rattle.session.specs.Endings.{BySinkFault, ByDiskFault}
 use Rattle.session.specs.Parts.{status_of_ran}
 use Rattle.session.proofs.Results.{answers_err, answers_ok, ends_err, ends_ok, err_if, err_on, if_ok, not_edge, ok_if, ok_on, on_err}
 use Rattle.session.proofs.Returning.{edge_ends}
@@ -12,8 +12,8 @@ use Rattle.session.proofs.ends.end_call.Goals as goal
 
 -- ---- it was driven
 
-pub end_driven-requires-clause-placed : goal.end_driven-requires-clause-placed
-end_driven-requires-clause-placed g c = if_ok _ c.args.driven c.in-Ok.driven c.in-Ok.driven c.in-Ok.is refl c.requires.placed
+pub end_driven-requires-clause-from_state : goal.end_driven-requires-clause-from_state
+end_driven-requires-clause-from_state g c = if_ok _ c.args.driven c.in-Ok.driven c.in-Ok.driven c.in-Ok.is refl c.requires.from_state
 
 pub end_driven-requires-clause-held : goal.end_driven-requires-clause-held
 end_driven-requires-clause-held g c = if_ok _ c.args.driven c.in-Ok.driven c.in-Ok.driven c.in-Ok.is refl c.requires.held
@@ -86,7 +86,7 @@ pub returns-in-Err-Disk-clause-ends : goal.returns-in-Err-Disk-clause-ends
 returns-in-Err-Disk-clause-ends g c =
     ends_err c.say_disk.result (g.K.Sink.held c.args.sink.now) (g.K.Sink.held c.say_disk.new.sink) c.args.driven c.in-Err-Disk.field-0 over.Disk
     c.in-Err-Disk.is (rw c.in-Err-Disk.is at c.in-Err-Disk.field-0-is)
-    (Fails, (refl, λ fails. inl refl), c.say_disk.ensures.says, c.say_disk.ensures.answers)
+    (ByDiskFault, (refl, λ fails. inl refl), c.say_disk.ensures.says, c.say_disk.ensures.answers)
 
 pub returns-in-Err-Disk-clause-unswept : goal.returns-in-Err-Disk-clause-unswept
 returns-in-Err-Disk-clause-unswept g c = err_on _ c.args.driven c.in-Err-Disk.field-0 c.in-Err-Disk.is refl
@@ -103,7 +103,7 @@ pub returns-in-Err-Output-clause-ends : goal.returns-in-Err-Output-clause-ends
 returns-in-Err-Output-clause-ends g c =
     let held = g.K.Sink.held c.args.sink.now in
     ends_err statuses.Edge held held c.args.driven c.in-Err-Output.field-0 over.Output c.in-Err-Output.is (rw c.in-Err-Output.is at c.in-Err-Output.field-0-is)
-    (Breaks, (refl, λ fails. absurd cc), says_none held held statuses.Edge refl, inl refl)
+    (BySinkFault, (refl, λ fails. absurd cc), says_none held held statuses.Edge refl, inl refl)
 
 -- ---- no stray file is left behind a close
 

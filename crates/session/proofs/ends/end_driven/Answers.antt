@@ -1,6 +1,6 @@
 use Rattle.std.specs.Prelude.{Ok}
 use Rattle.std.proofs.Common.{◌≡◌, [], inl, inr, refl, sym, subst}
-use Rattle.disk_model.specs.Disk.{Leaves}
+use Rattle.disk_model.specs.Disk.{HasLeft}
 use Rattle.disk_model.specs.Listing.{artifacts, IsBelow}
 use Rattle.nuc_base.specs.Faults.{Rose}
 use Rattle.nuc_base.specs.declared.status.Status.TheVariants as statuses
@@ -16,9 +16,9 @@ use Rattle.session_rollout.specs.Driven.{DrivenLeft, OwnsDriven, driven_device}
 use Rattle.session.specs.Parts.{status_of_ran}
 use Rattle.session.proofs.Ending.{end_rises}
 use Rattle.session_rollout.specs.declared.driven.Driven.{Driven}
-use Rattle.session.specs.Calls.{AnswersFor, EndsFor, SaysEnding}
-use Rattle.session.specs.Endings.{Fails, Reboots, Restarts}
-use Rattle.session.proofs.Places.{bare_none, between_bare, restart_ends}
+use Rattle.session.specs.Calls.{DrivenStatus, DrivenEnding, SaysEnding}
+use Rattle.session.specs.Endings.{ByDiskFault, ByReboot, ByRestart}
+use Rattle.session.proofs.States.{bare_none, between_bare, restart_ends}
 use Rattle.session.proofs.Statuses.{two_never}
 use Rattle.session.proofs.Sweeping.{close_is, no_close}
 use Rattle.session.proofs.Returning.{edge_ends}
@@ -30,9 +30,9 @@ pub end_closed-requires-clause-held : goal.end_closed-requires-clause-held
 end_closed-requires-clause-held g c = subst (λ (x : Driven _). OwnsDriven g.D.Disk.is_modelled g.D.Disk.may_leave g.J.Journal.stands g.J.Journal.end x
     c.args.disk.now) c.in-Closed.is c.requires.held
 
-pub end_closed-requires-clause-placed : goal.end_closed-requires-clause-placed
-end_closed-requires-clause-placed g c =
-    let q = c.requires.placed in
+pub end_closed-requires-clause-from_state : goal.end_closed-requires-clause-from_state
+end_closed-requires-clause-from_state g c =
+    let q = c.requires.from_state in
     let told = Listed g.R.Runner.list g.R.Runner.told g.R.Runner.asked c.args.runner.now in
     let l = subst (λ (x : Driven _). DrivenLeft x q.1 q.0 (g.S.Supervise.world c.args.supervisor.now) told (g.R.Runner.living c.args.runner.now))
     c.in-Closed.is q.2 in
@@ -48,17 +48,17 @@ returns-in-Closed-clause-trace g c = λ p h before left.
 pub returns-in-Closed-clause-safe : goal.returns-in-Closed-clause-safe
 returns-in-Closed-clause-safe g c =
     subst (λ (x : Driven _). AllHoldDevice (g.D.Disk.may_leave c.args.disk.now) (driven_device x) →
-    Leaves g.D.Disk.moment g.D.Disk.left_since c.args.disk.now c.end_closed.new.disk (λ i. HoldsDevice i (driven_device x))) (sym c.in-Closed.is)
+    HasLeft g.D.Disk.moment g.D.Disk.left_since c.args.disk.now c.end_closed.new.disk (λ i. HoldsDevice i (driven_device x))) (sym c.in-Closed.is)
     c.end_closed.ensures.safe
 
 pub returns-in-Closed-clause-answers : goal.returns-in-Closed-clause-answers
 returns-in-Closed-clause-answers g c =
-    subst (λ (x : Driven _). AnswersFor (Ok x) (status_of_ran c.end_closed.result)) (sym c.in-Closed.is) c.end_closed.ensures.answers
+    subst (λ (x : Driven _). DrivenStatus (Ok x) (status_of_ran c.end_closed.result)) (sym c.in-Closed.is) c.end_closed.ensures.answers
 
 pub returns-in-Closed-clause-ends : goal.returns-in-Closed-clause-ends
 returns-in-Closed-clause-ends g c =
     subst (λ (x : Driven _). SaysEnding (g.K.Sink.held c.args.sink.now) (g.K.Sink.held c.end_closed.new.sink) (status_of_ran c.end_closed.result)
-    (λ e. EndsFor (Ok x) e × (e ≡ Fails → Rose (g.D.Disk.faults c.args.disk.now) (g.D.Disk.faults c.end_closed.new.disk)))) (sym c.in-Closed.is)
+    (λ e. DrivenEnding (Ok x) e × (e ≡ ByDiskFault → Rose (g.D.Disk.faults c.args.disk.now) (g.D.Disk.faults c.end_closed.new.disk)))) (sym c.in-Closed.is)
     c.end_closed.ensures.ends
 
 -- ---- it ends for a restart
@@ -76,7 +76,7 @@ returns-in-Restart-clause-trace g c = λ p h before left.
 
 pub returns-in-Restart-clause-none : goal.returns-in-Restart-clause-none
 returns-in-Restart-clause-none g c = λ over.
-    let q = c.requires.placed in
+    let q = c.requires.from_state in
     let d = loaded_device c.in-Restart.state in
     let told = Listed g.R.Runner.list g.R.Runner.told g.R.Runner.asked c.args.runner.now in
     let world = g.S.Supervise.world c.args.supervisor.now in
@@ -90,18 +90,18 @@ returns-in-Restart-clause-spared g c = start_spares g.met.D.Disk.laws (IsBelow a
 pub returns-in-Restart-clause-safe : goal.returns-in-Restart-clause-safe
 returns-in-Restart-clause-safe g c =
     subst (λ (x : Driven _). AllHoldDevice (g.D.Disk.may_leave c.args.disk.now) (driven_device x) →
-    Leaves g.D.Disk.moment g.D.Disk.left_since c.args.disk.now c.args.disk.now (λ i. HoldsDevice i (driven_device x))) (sym c.in-Restart.is)
+    HasLeft g.D.Disk.moment g.D.Disk.left_since c.args.disk.now c.args.disk.now (λ i. HoldsDevice i (driven_device x))) (sym c.in-Restart.is)
     (still_safe g.met.D.Disk.laws (loaded_device c.in-Restart.state) c.args.disk.now)
 
 pub returns-in-Restart-clause-answers : goal.returns-in-Restart-clause-answers
 returns-in-Restart-clause-answers g c =
-    subst (λ (x : Driven _). AnswersFor (Ok x) c.say_again-status.result) (sym c.in-Restart.is) c.say_again-status.ensures.answers
+    subst (λ (x : Driven _). DrivenStatus (Ok x) c.say_again-status.result) (sym c.in-Restart.is) c.say_again-status.ensures.answers
 
 pub returns-in-Restart-clause-ends : goal.returns-in-Restart-clause-ends
 returns-in-Restart-clause-ends g c =
     subst (λ (x : Driven _). SaysEnding (g.K.Sink.held c.args.sink.now) (g.K.Sink.held c.say_again-status.new.sink) c.say_again-status.result
-    (λ e. EndsFor (Ok x) e × (e ≡ Fails → Rose (g.D.Disk.faults c.args.disk.now) (g.D.Disk.faults c.args.disk.now)))) (sym c.in-Restart.is)
-    (Restarts (id_of (loaded_device c.in-Restart.state)), (refl, λ fails. absurd cc), c.say_again-status.ensures.says, c.say_again-status.ensures.answers)
+    (λ e. DrivenEnding (Ok x) e × (e ≡ ByDiskFault → Rose (g.D.Disk.faults c.args.disk.now) (g.D.Disk.faults c.args.disk.now)))) (sym c.in-Restart.is)
+    (ByRestart (id_of (loaded_device c.in-Restart.state)), (refl, λ fails. absurd cc), c.say_again-status.ensures.says, c.say_again-status.ensures.answers)
 
 pub returns-in-Restart-clause-disk : goal.returns-in-Restart-clause-disk
 returns-in-Restart-clause-disk g c = λ is. absurd (two_never c.say_again-status.result statuses.Restart statuses.Edge statuses.Disk
@@ -123,7 +123,7 @@ returns-in-Reboot-clause-trace g c = λ p h before left.
 
 pub returns-in-Reboot-clause-none : goal.returns-in-Reboot-clause-none
 returns-in-Reboot-clause-none g c = λ over.
-    let q = c.requires.placed in
+    let q = c.requires.from_state in
     let d = loaded_device c.in-Reboot.state in
     let told = Listed g.R.Runner.list g.R.Runner.told g.R.Runner.asked c.args.runner.now in
     let world = g.S.Supervise.world c.args.supervisor.now in
@@ -137,19 +137,19 @@ returns-in-Reboot-clause-spared g c = start_spares g.met.D.Disk.laws (IsBelow ar
 pub returns-in-Reboot-clause-safe : goal.returns-in-Reboot-clause-safe
 returns-in-Reboot-clause-safe g c =
     subst (λ (x : Driven _). AllHoldDevice (g.D.Disk.may_leave c.args.disk.now) (driven_device x) →
-    Leaves g.D.Disk.moment g.D.Disk.left_since c.args.disk.now c.args.disk.now (λ i. HoldsDevice i (driven_device x))) (sym c.in-Reboot.is)
+    HasLeft g.D.Disk.moment g.D.Disk.left_since c.args.disk.now c.args.disk.now (λ i. HoldsDevice i (driven_device x))) (sym c.in-Reboot.is)
     (still_safe g.met.D.Disk.laws (loaded_device c.in-Reboot.state) c.args.disk.now)
 
 pub returns-in-Reboot-clause-answers : goal.returns-in-Reboot-clause-answers
-returns-in-Reboot-clause-answers g c = subst (λ (x : Driven _). AnswersFor (Ok x) c.say_again-status-in-Reboot.result) (sym c.in-Reboot.is)
+returns-in-Reboot-clause-answers g c = subst (λ (x : Driven _). DrivenStatus (Ok x) c.say_again-status-in-Reboot.result) (sym c.in-Reboot.is)
     c.say_again-status-in-Reboot.ensures.answers
 
 pub returns-in-Reboot-clause-ends : goal.returns-in-Reboot-clause-ends
 returns-in-Reboot-clause-ends g c =
     subst (λ (x : Driven _). SaysEnding (g.K.Sink.held c.args.sink.now) (g.K.Sink.held c.say_again-status-in-Reboot.new.sink)
     c.say_again-status-in-Reboot.result
-    (λ e. EndsFor (Ok x) e × (e ≡ Fails → Rose (g.D.Disk.faults c.args.disk.now) (g.D.Disk.faults c.args.disk.now)))) (sym c.in-Reboot.is) (
-      Reboots (id_of (loaded_device c.in-Reboot.state)),
+    (λ e. DrivenEnding (Ok x) e × (e ≡ ByDiskFault → Rose (g.D.Disk.faults c.args.disk.now) (g.D.Disk.faults c.args.disk.now)))) (sym c.in-Reboot.is) (
+      ByReboot (id_of (loaded_device c.in-Reboot.state)),
       (refl, λ fails. absurd cc),
       c.say_again-status-in-Reboot.ensures.says,
       c.say_again-status-in-Reboot.ensures.answers,

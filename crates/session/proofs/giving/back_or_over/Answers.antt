@@ -7,7 +7,7 @@ use Rattle.session_boots.proofs.Acting.{acts_none}
 use Rattle.session_transitions.proofs.Ended.{killed_ends}
 use Rattle.session.specs.Parts.{RanLeft}
 use Rattle.session.specs.declared.ran.Ran.{Ran}
-use Rattle.session.proofs.Places.{returned_may}
+use Rattle.session.proofs.States.{returned_may}
 use Rattle.session.proofs.Returning.{came_back, came_over}
 use Rattle.session.proofs.giving.back_or_over.Goals as goal
 
@@ -15,10 +15,10 @@ use Rattle.session.proofs.giving.back_or_over.Goals as goal
 
 pub give_up-requires : goal.give_up-requires
 give_up-requires g c =
-    let q = c.requires.placed in
+    let q = c.requires.from_state in
     let told = Listed g.R.Runner.list g.R.Runner.told g.R.Runner.asked c.args.runner.now in
     record {
-      placed = (q.0, returned_may q.0 (idle_device c.args.idle) (g.S.Supervise.world c.args.supervisor.now) told (g.R.Runner.living c.args.runner.now) q.1);
+      from_state = (q.0, returned_may q.0 (idle_device c.args.idle) (g.S.Supervise.world c.args.supervisor.now) told (g.R.Runner.living c.args.runner.now) q.1);
     }
 
 pub returns-then-gives_up-clause-trace : goal.returns-then-gives_up-clause-trace
@@ -35,7 +35,7 @@ returns-then-gives_up-clause-trace g c = λ p before returned generation.
       t.1,
       t.2,
       λ (rose : Bool). subst (λ (r : Ran _). RanLeft before r rose (state_after p t.0) world new lives) (sym c.give_up.ensures.over)
-          (killed_ends p (state_after p t.0) world told living c.args.status rose may.0 t.3 t.4 gives (λ kept. returned.quiet.told)),
+          (killed_ends p (state_after p t.0) world told living c.args.status rose may.0 t.3 t.4 gives (λ kept. returned.quiet.owes_none)),
     )
 
 pub returns-then-gives_up-clause-exact : goal.returns-then-gives_up-clause-exact

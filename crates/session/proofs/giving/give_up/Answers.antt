@@ -2,7 +2,7 @@ use Rattle.std.proofs.Common.{◌≡◌, ◌∙◌, [], refl, sym}
 use Rattle.std.proofs.lemmas.Bool.{false≢true}
 use Rattle.step_runner.specs.Entries.{Listed}
 use Rattle.session_boots.proofs.Acting.{acts_none}
-use Rattle.session.proofs.Places.{quit_bare, quit_none}
+use Rattle.session.proofs.States.{quit_bare, quit_none}
 use Rattle.session.proofs.giving.give_up.Goals as goal
 
 -- ---- none stands
@@ -21,14 +21,14 @@ returns-then-stopped-clause-trace g c = λ p may.
 
 pub returns-then-stopped-clause-none : goal.returns-then-stopped-clause-none
 returns-then-stopped-clause-none g c =
-    let q = c.requires.placed in
+    let q = c.requires.from_state in
     let told = Listed g.R.Runner.list g.R.Runner.told g.R.Runner.asked c.args.runner.now in
     quit_none q.0 (g.S.Supervise.world c.args.supervisor.now) told (g.R.Runner.living c.args.runner.now) q.1 (sym c.stopped.ensures ∙ c.if-stopped.true)
 
 -- ---- children are killed
 
 pub kill_all-requires : goal.kill_all-requires
-kill_all-requires g c = let q = c.requires.placed in record { placed = (q.0, q.1.0) }
+kill_all-requires g c = let q = c.requires.from_state in record { from_state = (q.0, q.1.0) }
 
 pub returns-clause-trace : goal.returns-clause-trace
 returns-clause-trace g c = λ p may.

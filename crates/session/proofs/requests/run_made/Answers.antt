@@ -28,7 +28,7 @@ use Rattle.session.specs.declared.ran.Standing.TheVariants as standings
 use Rattle.session.proofs.Ending.{declined_parted, still_files}
 use Rattle.session.proofs.Returning.{came_held, status_came}
 use Rattle.session.proofs.Faults.{stays_later}
-use Rattle.session.proofs.Places.{open_returned}
+use Rattle.session.proofs.States.{open_returned}
 use Rattle.session.proofs.Statuses.{declined_disk, declined_library, declined_no_restart, told_is, told_no_restart}
 use Rattle.session.proofs.Sweeping.{none_closes}
 use Rattle.session.proofs.requests.run_made.Goals as goal
@@ -79,9 +79,9 @@ pub back_or_over-requires-clause-other : goal.back_or_over-requires-clause-other
 back_or_over-requires-clause-other g c = told_no_restart c.say_declined-status.result (status_of_declined c.in-Err.declined)
     c.say_declined-status.ensures.answers (declined_no_restart c.in-Err.declined)
 
-pub back_or_over-requires-clause-placed : goal.back_or_over-requires-clause-placed
-back_or_over-requires-clause-placed g c =
-    let q = c.requires.placed in
+pub back_or_over-requires-clause-from_state : goal.back_or_over-requires-clause-from_state
+back_or_over-requires-clause-from_state g c =
+    let q = c.requires.from_state in
     let told = Listed g.R.Runner.list g.R.Runner.told g.R.Runner.asked c.args.runner.now in (
       q.0,
       open_returned q.0 (idle_device c.args.idle) (g.S.Supervise.world c.args.supervisor.now) told (g.R.Runner.living c.args.runner.now) q.1

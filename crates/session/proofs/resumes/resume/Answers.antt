@@ -12,11 +12,11 @@ use Rattle.histories.specs.TraceEvents.{records_of}
 use Rattle.session_boots.specs.Stands.{IsAtBootStage}
 use Rattle.session.specs.Parts.{RanLeft, status_of_ran}
 use Rattle.session.specs.declared.ran.Standing.TheVariants as standings
-use Rattle.session.specs.Endings.{Ending, Fails, Idle, is_failing}
+use Rattle.session.specs.Endings.{Ending, ByDiskFault, Idle, is_failing}
 use Rattle.session.proofs.Distinct.{differs, idle_fails, idle_starves}
 use Rattle.session.proofs.Ending.{nothing_parted, still_files}
 use Rattle.session.proofs.Faults.{stays_later}
-use Rattle.session.proofs.Places.{front_returned}
+use Rattle.session.proofs.States.{stage_returned}
 use Rattle.session.proofs.Printing.{said_prints}
 use Rattle.session.proofs.Resuming.{loaded_idle, loaded_pending, loaded_stands, resumes_none}
 use Rattle.session.proofs.Returning.{came_ends, came_held, status_came}
@@ -29,21 +29,21 @@ use Rattle.session.proofs.resumes.resume.Goals as goal
 pub back_or_over-requires-clause-other : goal.back_or_over-requires-clause-other
 back_or_over-requires-clause-other g c = no_restart c.say-status.result statuses.Done c.say-status.ensures.answers refl
 
-pub back_or_over-requires-clause-placed : goal.back_or_over-requires-clause-placed
-back_or_over-requires-clause-placed g c =
-    let q = c.requires.placed in
+pub back_or_over-requires-clause-from_state : goal.back_or_over-requires-clause-from_state
+back_or_over-requires-clause-from_state g c =
+    let q = c.requires.from_state in
     let told = Listed g.R.Runner.list g.R.Runner.told g.R.Runner.asked c.args.runner.now in
     let world = g.S.Supervise.world c.args.supervisor.now in
     let living = g.R.Runner.living c.args.runner.now in
-    let front = subst (λ (s : Loaded _). IsAtBootStage q.0 (loaded_device s) world told living) c.in-Idle.is q.1 in
+    let at_stage = subst (λ (s : Loaded _). IsAtBootStage q.0 (loaded_device s) world told living) c.in-Idle.is q.1 in
     let held = subst (λ (s : Loaded _). OwnsLoaded g.D.Disk.is_modelled g.D.Disk.may_leave g.J.Journal.stands g.J.Journal.end s c.args.disk.now) c.in-Idle.is
     c.requires.held in
-    (q.0, front_returned q.0 (idle_device c.in-Idle.idle) world told living front c.requires.orderly held.1)
+    (q.0, stage_returned q.0 (idle_device c.in-Idle.idle) world told living at_stage c.requires.orderly held.1)
 
 pub returns-in-Idle-clause-call : goal.returns-in-Idle-clause-call
-returns-in-Idle-clause-call g c = λ p front taking.
+returns-in-Idle-clause-call g c = λ p at_stage taking.
     let d = loaded_device c.args.state in
-    let stands = loaded_stands g.met.D.Disk.laws g.met.J.Journal.laws c.args.state c.args.disk.now c.requires.held p.device front.between.stands.device_is in
+    let stands = loaded_stands g.met.D.Disk.laws g.met.J.Journal.laws c.args.state c.args.disk.now c.requires.held p.device at_stage.between.stands.device_is in
     let told = Listed g.R.Runner.list g.R.Runner.told g.R.Runner.asked c.args.runner.now in
     let world = g.S.Supervise.world c.args.supervisor.now in
     let living = g.R.Runner.living c.args.runner.now in
@@ -53,11 +53,11 @@ returns-in-Idle-clause-call g c = λ p front taking.
     (g.R.Runner.living c.back_or_over.new.runner) in
     let none = loaded_idle g.D.Disk.is_modelled g.D.Disk.may_leave g.J.Journal.stands g.J.Journal.end c.args.state _ c.args.disk.now c.in-Idle.is
     c.requires.held in
-    let before = ap (λ (e : Device). e.pending) front.between.stands.device_is ∙ none in
-    let at = subst (λ (s : Loaded _). IsAtBootStage p (loaded_device s) world told living) c.in-Idle.is front in
+    let before = ap (λ (e : Device). e.pending) at_stage.between.stands.device_is ∙ none in
+    let at = subst (λ (s : Loaded _). IsAtBootStage p (loaded_device s) world told living) c.in-Idle.is at_stage in
     let own = subst (λ (s : Loaded _). OwnsLoaded g.D.Disk.is_modelled g.D.Disk.may_leave g.J.Journal.stands g.J.Journal.end s c.args.disk.now) c.in-Idle.is
     c.requires.held in
-    let k = c.back_or_over.ensures.trace p p.generation (front_returned p (idle_device c.in-Idle.idle) world told living at c.requires.orderly own.1) refl in
+    let k = c.back_or_over.ensures.trace p p.generation (stage_returned p (idle_device c.in-Idle.idle) world told living at c.requires.orderly own.1) refl in
     let held = g.K.Sink.held c.args.sink.now in
     let call = nothing_parted g.J.Journal.entries g.J.Journal.files g.met.D.Disk.laws c.args.disk.now c.args.disk.now told.list end.list held
     (g.K.Sink.held c.say-status.new.sink) p (status_of_ran ran) c.say-status.result
@@ -71,7 +71,7 @@ returns-in-Idle-clause-call g c = λ p front taking.
       call.0,
       resumes_none d call.0.ending none call.1,
       (λ holds. still_files g.J.Journal.entries g.J.Journal.files g.met.D.Disk.laws c.args.disk.now p (records_of call.0.history) call.2 stands holds),
-      (λ fails. absurd (differs call.0.ending Idle Fails call.1 idle_fails fails)),
+      (λ fails. absurd (differs call.0.ending Idle ByDiskFault call.1 idle_fails fails)),
     )
 
 pub returns-in-Idle-clause-own : goal.returns-in-Idle-clause-own

@@ -13,7 +13,7 @@ use Rattle.deploy_state.specs.States.{loaded_device}
 use Rattle.step_runner.specs.Entries.{Listed}
 use Rattle.histories.specs.TraceEvents.{records_of}
 use Rattle.histories.specs.Courses.{IsEnd, is_restart}
-use Rattle.law_termination.specs.Drives.{Drives}
+use Rattle.law_termination.specs.Drives.{AreDriven}
 use Rattle.session_boots.proofs.Acting.{acts_none}
 use Rattle.session_boots.proofs.Between.{no_living}
 use Rattle.session_boots.specs.declared.ends.SessionFault.TheVariants as over
@@ -23,8 +23,8 @@ use Rattle.session.proofs.Ending.{nothing_parted, parted, placed_at, still_files
 use Rattle.session.proofs.Returning.{back_driven, once_pending}
 use Rattle.session.proofs.Faults.{rose_by, rose_on, stays_by, stays_later, stays_on}
 use Rattle.session.proofs.Holding.{none_before}
-use Rattle.session.proofs.Places.{front_shut, shut_ends}
-use Rattle.session.specs.Endings.{Breaks, Fails, IsBegun, Starves, is_failing}
+use Rattle.session.proofs.States.{stage_shut, shut_ends}
+use Rattle.session.specs.Endings.{BySinkFault, ByDiskFault, IsBegun, WantBefore, is_failing}
 use Rattle.session.proofs.Printing.{opening_at, starved_prints, unopened_prints}
 use Rattle.session.proofs.Results.{answers_disk, answers_edge, answers_own}
 use Rattle.session.proofs.Resuming.{loaded_hand, loaded_stands, resumes_some, some_is}
@@ -43,15 +43,15 @@ ready_again-requires-clause-regular g c =
     c.args.disk.now c.requires.held).1.regular
 
 pub returns-in-Err-clause-call : goal.returns-in-Err-clause-call
-returns-in-Err-clause-call g c = λ p front taking.
+returns-in-Err-clause-call g c = λ p at_stage taking.
     let d = loaded_device c.args.state in
-    let stands = loaded_stands g.met.D.Disk.laws g.met.J.Journal.laws c.args.state c.args.disk.now c.requires.held p.device front.between.stands.device_is in
+    let stands = loaded_stands g.met.D.Disk.laws g.met.J.Journal.laws c.args.state c.args.disk.now c.requires.held p.device at_stage.between.stands.device_is in
     let told = Listed g.R.Runner.list g.R.Runner.told g.R.Runner.asked c.args.runner.now in
-    let shut = front_shut p d (g.S.Supervise.world c.args.supervisor.now) told (g.R.Runner.living c.args.runner.now) front in
+    let shut = stage_shut p d (g.S.Supervise.world c.args.supervisor.now) told (g.R.Runner.living c.args.runner.now) at_stage in
     let held = g.K.Sink.held c.args.sink.now in
     let call = nothing_parted g.J.Journal.entries g.J.Journal.files g.met.D.Disk.laws c.args.disk.now c.args.disk.now told.list told.list held held p
     statuses.Memory
-    statuses.Memory refl (λ ending q. IsEnd q statuses.Memory (is_failing ending)) Starves []
+    statuses.Memory refl (λ ending q. IsEnd q statuses.Memory (is_failing ending)) WantBefore []
     (start_spares g.met.D.Disk.laws (IsBelow artifacts) c.args.disk.now)
     stands (acts_none p told.list told.list refl) (tt, λ stopped. refl)
     (inl refl)
@@ -61,12 +61,12 @@ returns-in-Err-clause-call g c = λ p front taking.
       call.0,
       resumes_some d call.0.ending c.requires.pending (inr call.1),
       (λ holds. still_files g.J.Journal.entries g.J.Journal.files g.met.D.Disk.laws c.args.disk.now p (records_of call.0.history) call.2 stands holds),
-      (λ fails. absurd (differs call.0.ending Starves Fails call.1 starves_fails fails)),
+      (λ fails. absurd (differs call.0.ending WantBefore ByDiskFault call.1 starves_fails fails)),
     )
 
 pub returns-in-Err-clause-none : goal.returns-in-Err-clause-none
 returns-in-Err-clause-none g c = λ over.
-    let q = c.requires.placed in
+    let q = c.requires.from_state in
     let told = Listed g.R.Runner.list g.R.Runner.told g.R.Runner.asked c.args.runner.now in
     no_living q.0 (loaded_device c.args.state) (g.S.Supervise.world c.args.supervisor.now) told (g.R.Runner.living c.args.runner.now) q.1
 

@@ -12,7 +12,7 @@ use Rattle.deploy_state.specs.States.{loaded_device}
 use Rattle.step_runner.specs.Entries.{Listed}
 use Rattle.histories.specs.TraceEvents.{records_of}
 use Rattle.histories.specs.Courses.{IsEnd, gives_up, is_restart}
-use Rattle.law_termination.specs.Drives.{Drives}
+use Rattle.law_termination.specs.Drives.{AreDriven}
 use Rattle.session_boots.proofs.Acting.{acts_none}
 use Rattle.session_boots.proofs.Between.{no_living}
 use Rattle.session_boots.specs.declared.ends.SessionFault.TheVariants as over
@@ -22,8 +22,8 @@ use Rattle.session.proofs.Ending.{nothing_parted, parted, placed_at, still_files
 use Rattle.session.proofs.Returning.{back_driven, once_pending}
 use Rattle.session.proofs.Faults.{rose_by, rose_on, stays_by, stays_later, stays_on}
 use Rattle.session.proofs.Holding.{none_before}
-use Rattle.session.proofs.Places.{front_shut, shut_ends}
-use Rattle.session.specs.Endings.{Breaks, Fails, IsBegun, Starves, is_failing}
+use Rattle.session.proofs.States.{stage_shut, shut_ends}
+use Rattle.session.specs.Endings.{BySinkFault, ByDiskFault, IsBegun, WantBefore, is_failing}
 use Rattle.session.proofs.Printing.{opening_at, starved_prints, unopened_prints}
 use Rattle.session.proofs.Results.{answers_disk, answers_edge, answers_own}
 use Rattle.session.proofs.Resuming.{loaded_hand, loaded_stands, resumes_some, some_is}
@@ -32,17 +32,17 @@ use Rattle.session.proofs.Sweeping.{driven_sweeps, never_closes, none_closes}
 use Rattle.session.proofs.resumes.resume_ready.Goals as goal
 
 pub returns-in_default-clause-call : goal.returns-in_default-clause-call
-returns-in_default-clause-call g c = λ p front taking.
+returns-in_default-clause-call g c = λ p at_stage taking.
     let d = loaded_device c.args.state in
-    let stands = loaded_stands g.met.D.Disk.laws g.met.J.Journal.laws c.args.state c.args.disk.now c.requires.held p.device front.between.stands.device_is in
+    let stands = loaded_stands g.met.D.Disk.laws g.met.J.Journal.laws c.args.state c.args.disk.now c.requires.held p.device at_stage.between.stands.device_is in
     let told = Listed g.R.Runner.list g.R.Runner.told g.R.Runner.asked c.args.runner.now in
-    let opening = opening_at p.device d front.between.stands.device_is c.requires.pending in
+    let opening = opening_at p.device d at_stage.between.stands.device_is c.requires.pending in
     let edge = not_done c.say_resumed.result c.say_resumed.ensures.answers c.in_default.not-Done in
-    let shut = front_shut p d (g.S.Supervise.world c.args.supervisor.now) told (g.R.Runner.living c.args.runner.now) front in
+    let shut = stage_shut p d (g.S.Supervise.world c.args.supervisor.now) told (g.R.Runner.living c.args.runner.now) at_stage in
     let held = g.K.Sink.held c.args.sink.now in
     let last = g.K.Sink.held c.say_resumed.new.sink in
     let call = nothing_parted g.J.Journal.entries g.J.Journal.files g.met.D.Disk.laws c.args.disk.now c.args.disk.now told.list told.list held last p
-    c.say_resumed.result c.say_resumed.result refl (λ ending q. IsEnd q c.say_resumed.result (is_failing ending)) Breaks []
+    c.say_resumed.result c.say_resumed.result refl (λ ending q. IsEnd q c.say_resumed.result (is_failing ending)) BySinkFault []
     (start_spares g.met.D.Disk.laws (IsBelow artifacts) c.args.disk.now)
     stands (acts_none p told.list told.list refl) (tt, λ stopped. refl)
     (inr edge)
@@ -53,7 +53,7 @@ returns-in_default-clause-call g c = λ p front taking.
       call.0,
       resumes_some d call.0.ending c.requires.pending (inl (subst IsBegun (sym call.1) tt)),
       (λ holds. still_files g.J.Journal.entries g.J.Journal.files g.met.D.Disk.laws c.args.disk.now p (records_of call.0.history) call.2 stands holds),
-      (λ fails. absurd (differs call.0.ending Breaks Fails call.1 breaks_fails fails)),
+      (λ fails. absurd (differs call.0.ending BySinkFault ByDiskFault call.1 breaks_fails fails)),
     )
 
 pub returns-in_default-clause-own : goal.returns-in_default-clause-own
@@ -62,7 +62,7 @@ returns-in_default-clause-own g c = two_never c.say_resumed.result statuses.Done
 
 pub returns-in_default-clause-none : goal.returns-in_default-clause-none
 returns-in_default-clause-none g c = λ over.
-    let q = c.requires.placed in
+    let q = c.requires.from_state in
     let told = Listed g.R.Runner.list g.R.Runner.told g.R.Runner.asked c.args.runner.now in
     no_living q.0 (loaded_device c.args.state) (g.S.Supervise.world c.args.supervisor.now) told (g.R.Runner.living c.args.runner.now) q.1
 
@@ -81,9 +81,9 @@ returns-in_default-clause-swept g c =
     none_closes g.met.D.Disk.laws g.met.J.Journal.laws c.args.disk.now (loaded_device c.args.state) c.say_resumed.result
     (loaded_stands g.met.D.Disk.laws g.met.J.Journal.laws c.args.state c.args.disk.now c.requires.held (loaded_device c.args.state) refl)
 
-pub end_call-requires-clause-placed : goal.end_call-requires-clause-placed
-end_call-requires-clause-placed g c =
-    let q = c.requires.placed in
+pub end_call-requires-clause-from_state : goal.end_call-requires-clause-from_state
+end_call-requires-clause-from_state g c =
+    let q = c.requires.from_state in
     let told = Listed g.R.Runner.list g.R.Runner.told g.R.Runner.asked c.args.runner.now in
     let last = Listed g.R.Runner.list g.R.Runner.told g.R.Runner.asked c.drive-driven.new.runner in
     placed_at g.met.D.Disk.laws g.met.J.Journal.laws c.requires.apart (g.S.Supervise.world c.drive-driven.new.supervisor) last
@@ -91,27 +91,27 @@ end_call-requires-clause-placed g c =
     (g.K.Sink.held c.say_resumed.new.sink) (g.K.Sink.held c.drive-driven.new.sink) q.0 c.drive-driven.result (c.drive-driven.ensures.course q.0 q.1)
 
 pub returns-in-Done-clause-call : goal.returns-in-Done-clause-call
-returns-in-Done-clause-call g c = λ p front taking.
+returns-in-Done-clause-call g c = λ p at_stage taking.
     let d = loaded_device c.args.state in
     let told = Listed g.R.Runner.list g.R.Runner.told g.R.Runner.asked c.args.runner.now in
     let last = Listed g.R.Runner.list g.R.Runner.told g.R.Runner.asked c.drive-driven.new.runner in
     let end = Listed g.R.Runner.list g.R.Runner.told g.R.Runner.asked c.end_call.new.runner in
     let next = g.S.Supervise.world c.drive-driven.new.supervisor in
-    let opening = opening_at p.device d front.between.stands.device_is c.requires.pending in
+    let opening = opening_at p.device d at_stage.between.stands.device_is c.requires.pending in
     let held = g.K.Sink.held c.args.sink.now in
     let mid = g.K.Sink.held c.say_resumed.new.sink in
-    let course = c.drive-driven.ensures.course p front in
+    let course = c.drive-driven.ensures.course p at_stage in
     let call = parted g.met.D.Disk.laws g.met.J.Journal.laws c.requires.apart next last
     (g.R.Runner.living c.drive-driven.new.runner)
     c.args.disk.now c.drive-driven.new.disk c.end_call.new.disk told.list last.list end.list
     held mid (g.K.Sink.held c.drive-driven.new.sink) (g.K.Sink.held c.end_call.new.sink) p c.drive-driven.result c.end_call.result
     next end (g.R.Runner.living c.end_call.new.runner)
-    (λ e. e ≡ Fails → (IsErrOf c.drive-driven.result over.Disk) ⊎ Rose (g.D.Disk.faults c.drive-driven.new.disk) (g.D.Disk.faults c.end_call.new.disk))
+    (λ e. e ≡ ByDiskFault → (IsErrOf c.drive-driven.result over.Disk) ⊎ Rose (g.D.Disk.faults c.drive-driven.new.disk) (g.D.Disk.faults c.end_call.new.disk))
     (subst (λ (l : List ℕ). Appends held mid l) opening (c.say_resumed.ensures.says.1 (done_no_edge c.say_resumed.result c.in-Done.is)))
     course
-    front.over c.drive-driven.ensures.held c.end_call.ensures.trace c.end_call.ensures.over c.end_call.ensures.still c.end_call.ensures.spared
+    at_stage.over c.drive-driven.ensures.held c.end_call.ensures.trace c.end_call.ensures.over c.end_call.ensures.still c.end_call.ensures.spared
     c.end_call.ensures.safe c.end_call.ensures.unswept c.end_call.ensures.ends c.end_call.ensures.silent c.end_call.ensures.answers in
-    let once = once_pending p course.history taking (some_is p.device d front.between.stands.device_is c.requires.pending) course.trace.proper in (
+    let once = once_pending p course.history taking (some_is p.device d at_stage.between.stands.device_is c.requires.pending) course.trace.proper in (
       call.0,
       resumes_some d call.0.ending c.requires.pending (inl call.1),
       (λ holds. call.3 (none_before (g.D.Disk.may_leave c.args.disk.now) p.device (records_of course.history) once holds)),
@@ -121,7 +121,7 @@ returns-in-Done-clause-call g c = λ p front taking.
     )
 
 pub returns-in-Done-clause-drives : goal.returns-in-Done-clause-drives
-returns-in-Done-clause-drives g c = λ back. back_driven (Drives (g.S.Supervise.world c.drive-driven.new.supervisor)) c.drive-driven.result
+returns-in-Done-clause-drives g c = λ back. back_driven (AreDriven (g.S.Supervise.world c.drive-driven.new.supervisor)) c.drive-driven.result
     c.end_call.result c.drive-driven.ensures.drives c.end_call.ensures.over back
 
 pub returns-in-Done-clause-own : goal.returns-in-Done-clause-own

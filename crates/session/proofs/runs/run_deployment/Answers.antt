@@ -17,7 +17,7 @@ use Rattle.histories.specs.TraceEvents.{records_of}
 use Rattle.admission.specs.Takes.{TakesIn}
 use Rattle.admission.specs.declared.fault.Declined.{Declined}
 use Rattle.session.specs.Documents.{IsPutOff}
-use Rattle.session.specs.Endings.{Ending, Fails, Starves, is_failing}
+use Rattle.session.specs.Endings.{Ending, ByDiskFault, WantBefore, is_failing}
 use Rattle.session.specs.Declines.{status_of_declined}
 use Rattle.session.specs.Parts.{RanLeft, status_of_ran}
 use Rattle.session.specs.declared.ran.Standing.TheVariants as standings
@@ -25,7 +25,7 @@ use Rattle.session.proofs.Ending.{declined_parted, nothing_parted, quits_left, t
 use Rattle.session.proofs.Returning.{came_ends, came_held, over_ends, over_never, over_status, status_came}
 use Rattle.session.proofs.Faults.{rose_on, stays_later, stays_on}
 use Rattle.session.proofs.Holding.{taken_both, taken_whole}
-use Rattle.session.proofs.Places.{open_returned, returned_may}
+use Rattle.session.proofs.States.{open_returned, returned_may}
 use Rattle.session.proofs.Printing.{starved_prints}
 use Rattle.session.proofs.Statuses.{told_no_restart, declined_no_restart, declined_disk, declined_library, disk_declined, library_declined, told_is, told_said}
 use Rattle.session.proofs.Sweeping.{declined_sweeps, never_closes}
@@ -38,9 +38,9 @@ back_or_over-requires-clause-other g c =
     told_no_restart c.say_declined-status.result (status_of_declined c.in-Err.declined) c.say_declined-status.ensures.answers
     (declined_no_restart c.in-Err.declined)
 
-pub back_or_over-requires-clause-placed : goal.back_or_over-requires-clause-placed
-back_or_over-requires-clause-placed g c =
-    let q = c.requires.placed in
+pub back_or_over-requires-clause-from_state : goal.back_or_over-requires-clause-from_state
+back_or_over-requires-clause-from_state g c =
+    let q = c.requires.from_state in
     let told = Listed g.R.Runner.list g.R.Runner.told g.R.Runner.asked c.args.runner.now in (
       q.0,
       open_returned q.0 (idle_device c.args.idle) (g.S.Supervise.world c.args.supervisor.now) told (g.R.Runner.living c.args.runner.now) q.1
@@ -204,17 +204,17 @@ returns-in-Ok-ready_for-clause-later g c = (
 
 -- ---- there is no memory for it
 
-fed_fails : Starves ≡ Fails → ⊥
+fed_fails : WantBefore ≡ ByDiskFault → ⊥
 fed_fails is = cc
 
 pub give_up-requires : goal.give_up-requires
 give_up-requires g c =
-    let q = c.requires.placed in
+    let q = c.requires.from_state in
     let world = g.S.Supervise.world c.args.supervisor.now in
     let told = Listed g.R.Runner.list g.R.Runner.told g.R.Runner.asked c.args.runner.now in
     let living = g.R.Runner.living c.args.runner.now in
     record {
-      placed = (
+      from_state = (
         q.0,
         returned_may q.0 (idle_device c.args.idle) world told living
             (open_returned q.0 (idle_device c.args.idle) world told living q.1 c.requires.orderly c.requires.held.1),
@@ -240,14 +240,14 @@ returns-in-Err-ready_for-clause-call g c = λ p opens taking.
     let held = g.K.Sink.held c.args.sink.now in
     let start = start_of g.J.Journal.end g.J.Journal.number g.J.Journal.turns (idle_log c.args.idle) (idle_device c.args.idle) in
     let call = nothing_parted g.J.Journal.entries g.J.Journal.files g.met.D.Disk.laws c.args.disk.now c.take_in.new.disk told.list end.list held held p
-    (status_of_ran ran) statuses.Memory (over_status statuses.Memory ran c.give_up.ensures.over) leaves Starves k.0
+    (status_of_ran ran) statuses.Memory (over_status statuses.Memory ran c.give_up.ensures.over) leaves WantBefore k.0
     c.take_in.ensures.moments
     stands k.1 k.2
     (inl refl)
     (starved_prints _ held held p.device statuses.Memory stands refl)
     k.2
     (quits_left p p.generation world told living world end lives statuses.Memory ran false k.0 c.give_up.ensures.over may.0 k.3 k.4 refl
-    (λ kept. returned.quiet.told)) in (
+    (λ kept. returned.quiet.owes_none)) in (
       Ok c.in-Ok.plan,
       (λ o is. subst (λ (r : Result code.Plan Declined). TakesIn d o (g.L.Library.content c.args.library.now) (g.L.Library.faults c.args.library.now)
           (g.L.Library.faults c.take_in.new.library) c.args.document.now r) c.in-Ok.is (c.take_in.ensures.takes o is)),

@@ -26,7 +26,7 @@ use Rattle.session.proofs.Ending.{declined_parted, still_files}
 use Rattle.session.proofs.Returning.{came_ends, came_held, status_came}
 use Rattle.session.proofs.Taken.{unread_taken}
 use Rattle.session.proofs.Faults.{stays_later}
-use Rattle.session.proofs.Places.{open_returned}
+use Rattle.session.proofs.States.{open_returned}
 use Rattle.session.proofs.Statuses.{declined_no_restart, told_no_restart, refusal_never, unread_library, unread_never}
 use Rattle.session.proofs.Sweeping.{none_closes}
 use Rattle.session.proofs.runs.run_document.Goals as goal
@@ -35,9 +35,9 @@ pub back_or_over-requires-clause-other : goal.back_or_over-requires-clause-other
 back_or_over-requires-clause-other g c = told_no_restart c.say_refusal-status.result (status_of_refusal c.from-refusal.result)
     c.say_refusal-status.ensures.answers (declined_no_restart (Refused c.from-refusal.result))
 
-pub back_or_over-requires-clause-placed : goal.back_or_over-requires-clause-placed
-back_or_over-requires-clause-placed g c =
-    let q = c.requires.placed in
+pub back_or_over-requires-clause-from_state : goal.back_or_over-requires-clause-from_state
+back_or_over-requires-clause-from_state g c =
+    let q = c.requires.from_state in
     let told = Listed g.R.Runner.list g.R.Runner.told g.R.Runner.asked c.args.runner.now in (
       q.0,
       open_returned q.0 (idle_device c.args.idle) (g.S.Supervise.world c.args.supervisor.now) told (g.R.Runner.living c.args.runner.now) q.1

@@ -1,6 +1,6 @@
 use Rattle.std.proofs.Common.{◌≡◌, ◌⊎◌, ℕ, List, [], ◌∷◌, false, inl, inr, refl, sym, ap, subst, ◌∙◌}
 use Rattle.std.specs.Prelude.{Bool, Option, Err, IsErrOf}
-use Rattle.disk_model.specs.Disk.{Image, Leaves}
+use Rattle.disk_model.specs.Disk.{Image, HasLeft}
 use Rattle.disk_model.specs.Listing.{artifacts, IsBelow}
 use Rattle.disk_model.specs.Moments.{at_start}
 use Rattle.nuc_base.specs.Faults.{Rose}
@@ -17,7 +17,7 @@ use Rattle.deploy_state.specs.Turning.{plan_bytes, start_of}
 use Rattle.step_runner.specs.Entries.{Listed}
 use Rattle.histories.specs.TraceEvents.{Recorded, records_of}
 use Rattle.histories.specs.States.{SessionState, state_after}
-use Rattle.law_termination.specs.Drives.{Drives}
+use Rattle.law_termination.specs.Drives.{AreDriven}
 use Rattle.components.specs.Changes.{standing}
 use Rattle.session_transitions.specs.Enters.{RunOn}
 use Rattle.deploy_state.specs.Fields.{has_failed}
@@ -30,10 +30,10 @@ use Rattle.session_rollout.proofs.Leaving.{driven_on}
 use Rattle.nuc_base.specs.declared.status.Status.{Status}
 use Rattle.session.specs.Calls.{AllHoldBoth, IsOrEdge, SaysLine}
 use Rattle.session.specs.Declines.{disk_line}
-use Rattle.session.specs.Documents.{AcceptsFrom, Begins, FitsFrom, IsPutOff}
+use Rattle.session.specs.Documents.{AcceptsFrom, PlanEnding, FitsFrom, IsPutOff}
 use Rattle.session.specs.Parts.{IsReturned, Part, RanLeft, status_of_ran}
 use Rattle.session.specs.declared.ran.Standing.TheVariants as standings
-use Rattle.session.specs.Endings.{Ending, Breaks, Fails, Full, Starves, full_line, is_failing}
+use Rattle.session.specs.Endings.{Ending, BySinkFault, ByDiskFault, Full, WantBefore, full_line, is_failing}
 use Rattle.session.proofs.Distinct.{breaks_fails, differs, edge_other, full_fails, full_starves, starves_fails}
 use Rattle.session.proofs.Accepted.{any_moment, any_on}
 use Rattle.session.proofs.Ending.{HasFiles, begins_by, doubt_left, doubt_parted, first_of, joined_on, nothing_parted, parted, placed_at, quits_left}
@@ -41,7 +41,7 @@ use Rattle.session.proofs.Ending.{starved_parted, still_files}
 use Rattle.session.proofs.Returning.{back_driven, came_ends, came_held, edge_ends, once_open, over_ends, over_never, over_status, status_came}
 use Rattle.session.proofs.Faults.{rose_by, rose_on, stays_by, stays_on}
 use Rattle.session.proofs.Holding.{all_before}
-use Rattle.session.proofs.Places.{accepted_may, open_returned, returned_may}
+use Rattle.session.proofs.States.{accepted_may, open_returned, returned_may}
 use Rattle.session.proofs.Printing.{opening_none, said_prints, says_none}
 use Rattle.session.proofs.Results.{answers_disk, answers_edge, answers_own}
 use Rattle.session.proofs.Statuses.{no_restart, two_never}
@@ -74,9 +74,9 @@ begin-driven-requires-clause-made g c =
     (sym (booting_of c.in-Ok-Accepted.field-0 c.in-Ok-Accepted.state c.in-Ok-Accepted.field-0-is (idle_device c.args.idle)
     (plan_view c.args.plan) c.in-Ok-Accepted.ensures.taken)) c.requires.made
 
-pub begin-driven-requires-clause-placed : goal.begin-driven-requires-clause-placed
-begin-driven-requires-clause-placed g c =
-    let q = c.requires.placed in
+pub begin-driven-requires-clause-from_state : goal.begin-driven-requires-clause-from_state
+begin-driven-requires-clause-from_state g c =
+    let q = c.requires.from_state in
     let world = g.S.Supervise.world c.args.supervisor.now in
     let told = Listed g.R.Runner.list g.R.Runner.told g.R.Runner.asked c.args.runner.now in
     let living = g.R.Runner.living c.args.runner.now in
@@ -87,9 +87,9 @@ begin-driven-requires-clause-placed g c =
 
 -- ---- what its end asks
 
-pub end_call-requires-clause-placed : goal.end_call-requires-clause-placed
-end_call-requires-clause-placed g c =
-    let q = c.requires.placed in
+pub end_call-requires-clause-from_state : goal.end_call-requires-clause-from_state
+end_call-requires-clause-from_state g c =
+    let q = c.requires.from_state in
     let world = g.S.Supervise.world c.args.supervisor.now in
     let told = Listed g.R.Runner.list g.R.Runner.told g.R.Runner.asked c.args.runner.now in
     let living = g.R.Runner.living c.args.runner.now in
@@ -132,7 +132,7 @@ returns-in-Ok-Accepted-clause-call g c = λ p opens taking.
     told.list last.list end.list
     held held (g.K.Sink.held c.begin-driven.new.sink) (g.K.Sink.held c.end_call.new.sink) p c.begin-driven.result c.end_call.result
     next end (g.R.Runner.living c.end_call.new.runner)
-    (λ e. e ≡ Fails → (IsErrOf c.begin-driven.result over.Disk) ⊎ Rose (g.D.Disk.faults c.begin-driven.new.disk) (g.D.Disk.faults c.end_call.new.disk))
+    (λ e. e ≡ ByDiskFault → (IsErrOf c.begin-driven.result over.Disk) ⊎ Rose (g.D.Disk.faults c.begin-driven.new.disk) (g.D.Disk.faults c.end_call.new.disk))
     (opening_none held p.device (ap (λ (e : Device). e.pending) opens.stands.device_is ∙ c.requires.held.1))
     both.0
     opens.over c.begin-driven.ensures.held c.end_call.ensures.trace c.end_call.ensures.over c.end_call.ensures.still c.end_call.ensures.spared
@@ -158,7 +158,7 @@ returns-in-Ok-Accepted-clause-call g c = λ p opens taking.
     )
 
 pub returns-in-Ok-Accepted-clause-drives : goal.returns-in-Ok-Accepted-clause-drives
-returns-in-Ok-Accepted-clause-drives g c = λ back. back_driven (Drives (g.S.Supervise.world c.begin-driven.new.supervisor)) c.begin-driven.result
+returns-in-Ok-Accepted-clause-drives g c = λ back. back_driven (AreDriven (g.S.Supervise.world c.begin-driven.new.supervisor)) c.begin-driven.result
     c.end_call.result c.begin-driven.ensures.drives c.end_call.ensures.over back
 
 pub returns-in-Ok-Accepted-clause-own : goal.returns-in-Ok-Accepted-clause-own
@@ -209,9 +209,9 @@ returns-in-Ok-Accepted-clause-later g c = (
 pub back_or_over-requires-clause-other : goal.back_or_over-requires-clause-other
 back_or_over-requires-clause-other g c = no_restart c.say_full-status.result statuses.Limit c.say_full-status.ensures.answers refl
 
-pub back_or_over-requires-clause-placed : goal.back_or_over-requires-clause-placed
-back_or_over-requires-clause-placed g c =
-    let q = c.requires.placed in
+pub back_or_over-requires-clause-from_state : goal.back_or_over-requires-clause-from_state
+back_or_over-requires-clause-from_state g c =
+    let q = c.requires.from_state in
     let world = g.S.Supervise.world c.args.supervisor.now in
     let told = Listed g.R.Runner.list g.R.Runner.told g.R.Runner.asked c.args.runner.now in
     let living = g.R.Runner.living c.args.runner.now in
@@ -251,10 +251,10 @@ returns-in-Ok-Full-clause-call g c = λ p opens taking.
     refl in
     let of : g.row.D.Denot → Type 0 = λ z.
     (t : (part : Part g.J.Journal.entries g.J.Journal.files g.D.Disk.may_leave g.D.Disk.moment g.D.Disk.left_since c.args.disk.now z told.list end.list held
-    last p (status_of_ran ran) leaves) × Begins start plan part.ending (records_of part.history))
+    last p (status_of_ran ran) leaves) × PlanEnding start plan part.ending (records_of part.history))
     × (AllHoldBoth (g.D.Disk.may_leave c.args.disk.now) p.device plan.items → HasFiles g.J.Journal.entries g.J.Journal.files g.D.Disk.may_leave
     g.D.Disk.moment g.D.Disk.left_since c.args.disk.now z told.list end.list held last p (status_of_ran ran) leaves t.0)
-    × (t.0.ending ≡ Fails → Rose (g.D.Disk.faults c.args.disk.now) (g.D.Disk.faults z))
+    × (t.0.ending ≡ ByDiskFault → Rose (g.D.Disk.faults c.args.disk.now) (g.D.Disk.faults z))
     × AcceptsFrom g.J.Journal.entries g.D.Disk.may_leave g.D.Disk.moment g.D.Disk.left_since c.args.disk.now z d start plan t.0.ending
     (records_of t.0.history) in
     let call = nothing_parted g.J.Journal.entries g.J.Journal.files g.met.D.Disk.laws c.args.disk.now c.args.disk.now told.list end.list held last p
@@ -270,7 +270,7 @@ returns-in-Ok-Full-clause-call g c = λ p opens taking.
       (call.0, inl (subst (λ (e : Ending). IsPutOff start plan e) (sym call.1) (full.0, full.1), call.2)),
       (λ both. still_files g.J.Journal.entries g.J.Journal.files g.met.D.Disk.laws c.args.disk.now p (records_of call.0.history) call.2 stands
           (λ i left. (both i left).0)),
-      (λ fails. absurd (differs call.0.ending (Full c.in-Ok-Full.at) Fails call.1 (full_fails c.in-Ok-Full.at) fails)),
+      (λ fails. absurd (differs call.0.ending (Full c.in-Ok-Full.at) ByDiskFault call.1 (full_fails c.in-Ok-Full.at) fails)),
       inl call.2,
     )
 
@@ -307,12 +307,12 @@ returns-in-Ok-Full-clause-quiet_sink g c = λ edge.
 
 pub give_up-requires : goal.give_up-requires
 give_up-requires g c =
-    let q = c.requires.placed in
+    let q = c.requires.from_state in
     let world = g.S.Supervise.world c.args.supervisor.now in
     let told = Listed g.R.Runner.list g.R.Runner.told g.R.Runner.asked c.args.runner.now in
     let living = g.R.Runner.living c.args.runner.now in
     record {
-      placed = (
+      from_state = (
         q.0,
         returned_may q.0 (idle_device c.args.idle) world told living
             (open_returned q.0 (idle_device c.args.idle) world told living q.1 c.requires.orderly c.requires.held.1),
@@ -333,7 +333,7 @@ returns-in-Ok-NoMemory-clause-call g c = λ p opens taking.
     let same = short_device x _ s d plan c.in-Ok-NoMemory.ensures.taken in
     let held = short_held x _ s g.D.Disk.is_modelled g.D.Disk.may_leave g.J.Journal.stands g.J.Journal.end c.accept_plan.new.disk
     c.in-Ok-NoMemory.ensures.held in
-    let back = subst (λ (e : Device). Leaves g.D.Disk.moment g.D.Disk.left_since c.args.disk.now c.accept_plan.new.disk
+    let back = subst (λ (e : Device). HasLeft g.D.Disk.moment g.D.Disk.left_since c.args.disk.now c.accept_plan.new.disk
     (LeavesSame g.D.Disk.may_leave g.J.Journal.files g.J.Journal.entries c.args.disk.now e)) (sym opens.stands.device_is)
     (c.in-Ok-NoMemory.ensures.unmade (short_back x _ s)) in
     let ran = c.give_up.result in
@@ -349,11 +349,11 @@ returns-in-Ok-NoMemory-clause-call g c = λ p opens taking.
     k.1 k.2
     (ap g.K.Sink.held (c.in-Ok-NoMemory.ensures.silent (short_back x _ s)))
     (quits_left p p.generation world told living world end lives statuses.Memory ran false k.0 c.give_up.ensures.over may.0 k.3 k.4 refl
-    (λ kept. returned.quiet.told)) in
+    (λ kept. returned.quiet.owes_none)) in
     let start = start_of g.J.Journal.end g.J.Journal.number g.J.Journal.turns (idle_log c.args.idle) (idle_device c.args.idle) in (
       (call.0, inl (subst (λ (e : Ending). IsPutOff start plan e) (sym call.1) tt, call.2)),
       call.3,
-      (λ fails. absurd (differs call.0.ending Starves Fails call.1 starves_fails fails)),
+      (λ fails. absurd (differs call.0.ending WantBefore ByDiskFault call.1 starves_fails fails)),
       inl call.2,
     )
 
@@ -361,12 +361,12 @@ returns-in-Ok-NoMemory-clause-call g c = λ p opens taking.
 
 pub give_up-requires-in-Err-Disk : goal.give_up-requires-in-Err-Disk
 give_up-requires-in-Err-Disk g c =
-    let q = c.requires.placed in
+    let q = c.requires.from_state in
     let world = g.S.Supervise.world c.args.supervisor.now in
     let told = Listed g.R.Runner.list g.R.Runner.told g.R.Runner.asked c.args.runner.now in
     let living = g.R.Runner.living c.args.runner.now in
     record {
-      placed = (
+      from_state = (
         state_after q.0 (Recorded (Accepted (plan_view c.args.plan)) ∷ []),
         accepted_may q.0 (idle_device c.args.idle) world told living
             (plan_view c.args.plan) q.1 c.requires.orderly,
@@ -417,12 +417,12 @@ returns-in-Err-Disk-clause-drives g c = λ back. absurd (over_never c.say_disk-s
 
 pub give_up-requires-in-Err-Output : goal.give_up-requires-in-Err-Output
 give_up-requires-in-Err-Output g c =
-    let q = c.requires.placed in
+    let q = c.requires.from_state in
     let world = g.S.Supervise.world c.args.supervisor.now in
     let told = Listed g.R.Runner.list g.R.Runner.told g.R.Runner.asked c.args.runner.now in
     let living = g.R.Runner.living c.args.runner.now in
     record {
-      placed = (
+      from_state = (
         state_after q.0 (Recorded (Accepted (plan_view c.args.plan)) ∷ []),
         accepted_may q.0 (idle_device c.args.idle) world told living
             (plan_view c.args.plan) q.1 c.requires.orderly,
@@ -459,7 +459,7 @@ returns-in-Err-Output-clause-call g c = λ p opens taking.
     c.give_up-in-Err-Output.ensures.over k.4 behind refl) in (
       r.0,
       r.1,
-      (λ fails. absurd (differs r.0.0.ending Breaks Fails r.2 breaks_fails fails)),
+      (λ fails. absurd (differs r.0.0.ending BySinkFault ByDiskFault r.2 breaks_fails fails)),
       inr (inr (record {
         at = c.accept_plan.new.disk;
         from = any_moment g.J.Journal.entries g.met.D.Disk.laws c.args.disk.now c.accept_plan.new.disk _ c.accept_plan.ensures.moments;

@@ -5,7 +5,7 @@ use Rattle.histories.specs.States.{state_after}
 use Rattle.session_boots.proofs.Acting.{acts_none}
 use Rattle.session.specs.Parts.{IsBack, IsOver, RanLeft, status_of_ran}
 use Rattle.session.specs.declared.ran.Ran.{Ran}
-use Rattle.session.proofs.Places.{shut_ends}
+use Rattle.session.proofs.States.{shut_ends}
 use Rattle.session.proofs.whole.finish.Goals as goal
 
 -- ---- it came back
@@ -13,9 +13,9 @@ use Rattle.session.proofs.whole.finish.Goals as goal
 pub stop_standing-requires-clause-drives : goal.stop_standing-requires-clause-drives
 stop_standing-requires-clause-drives g c = c.requires.drives (subst IsBack (sym c.in-Back.is) tt)
 
-pub stop_standing-requires-clause-placed : goal.stop_standing-requires-clause-placed
-stop_standing-requires-clause-placed g c =
-    let q = c.requires.placed in
+pub stop_standing-requires-clause-from_state : goal.stop_standing-requires-clause-from_state
+stop_standing-requires-clause-from_state g c =
+    let q = c.requires.from_state in
     let told = Listed g.R.Runner.list g.R.Runner.told g.R.Runner.asked c.args.runner.now in
     let l = subst (λ (r : Ran _). RanLeft q.1 r q.2 q.0 (g.S.Supervise.world c.args.supervisor.now) told (g.R.Runner.living c.args.runner.now)) c.in-Back.is
     q.3 in

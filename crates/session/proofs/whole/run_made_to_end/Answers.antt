@@ -1,5 +1,5 @@
 use Rattle.std.proofs.Common.{List, ◌≡◌, List, ◌∙◌, inl, sym, subst}
-use Rattle.disk_model.specs.Disk.{Leaves}
+use Rattle.disk_model.specs.Disk.{HasLeft}
 use Rattle.records.specs.Stored.{Record}
 use Rattle.deploy_state.specs.Accepting.{idle_log}
 use Rattle.deploy_state.specs.States.{idle_device}
@@ -9,11 +9,11 @@ use Rattle.histories.specs.TraceEvents.{records_of}
 use Rattle.histories.specs.States.{state_after}
 use Rattle.law_termination.proofs.Comes.{none_drives}
 use Rattle.session.specs.Calls.{StandsWhole}
-use Rattle.session.specs.Documents.{AcceptsTaken, Follows}
+use Rattle.session.specs.Documents.{AcceptsTaken, TakenEnding}
 use Rattle.session.specs.Endings.{Ending, is_failing}
 use Rattle.session.specs.Sweeping.{LeavesNoStray}
 use Rattle.nuc_base.specs.declared.status.Status.{Status}
-use Rattle.session.proofs.Places.{none_stopped, orderly_none, run_standing_none, serves_on}
+use Rattle.session.proofs.States.{none_stopped, orderly_none, run_standing_none, serves_on}
 use Rattle.session.proofs.Wholes.{whole}
 use Rattle.session.proofs.whole.run_made_to_end.Goals as goal
 
@@ -28,14 +28,14 @@ run_made-ran-requires-clause-orderly g c = orderly_none (g.S.Supervise.world c.a
 pub run_made-ran-requires-clause-made : goal.run_made-ran-requires-clause-made
 run_made-ran-requires-clause-made g c = run_standing_none (idle_device c.args.idle) (g.S.Supervise.world c.args.supervisor.now) c.requires.empty
 
-pub run_made-ran-requires-clause-placed : goal.run_made-ran-requires-clause-placed
-run_made-ran-requires-clause-placed g c = let q = c.requires.placed in (q.0, q.1)
+pub run_made-ran-requires-clause-from_state : goal.run_made-ran-requires-clause-from_state
+run_made-ran-requires-clause-from_state g c = let q = c.requires.from_state in (q.0, q.1)
 
 -- ---- all are stopped
 
-pub finish-requires-clause-placed : goal.finish-requires-clause-placed
-finish-requires-clause-placed g c =
-    let q = c.requires.placed in
+pub finish-requires-clause-from_state : goal.finish-requires-clause-from_state
+finish-requires-clause-from_state g c =
+    let q = c.requires.from_state in
     let t = c.run_made-ran.ensures.call q.0 q.1 (inl q.2) in
     let part = t.2.0 in
     (state_after q.0 part.history, q.0.generation, is_failing part.ending, part.left, serves_on q.0 part.history q.2)
@@ -58,10 +58,10 @@ returns-clause-call g c = λ p opens serves.
       t.1,
       (
         w.0,
-        subst (λ (e : Ending). Follows start t.0 e (records_of w.0.history)) (sym w.1)
-            (subst (λ (l : List Record). Follows start t.0 part.ending l) (sym w.2) t.2.1),
+        subst (λ (e : Ending). TakenEnding start t.0 e (records_of w.0.history)) (sym w.1)
+            (subst (λ (l : List Record). TakenEnding start t.0 part.ending l) (sym w.2) t.2.1),
       ),
-      (λ holds. subst (λ (l : List Record). Leaves g.D.Disk.moment g.D.Disk.left_since c.args.disk.now c.run_made-ran.new.disk
+      (λ holds. subst (λ (l : List Record). HasLeft g.D.Disk.moment g.D.Disk.left_since c.args.disk.now c.run_made-ran.new.disk
           (StandsWhole g.J.Journal.entries p.device l)) (sym w.2) (t.3 holds)),
       (λ fails. t.4 (sym w.1 ∙ fails)),
       t.5,

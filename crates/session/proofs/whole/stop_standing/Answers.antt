@@ -4,7 +4,7 @@ use Rattle.components.specs.Components.{Components, is_stopped}
 use Rattle.step_runner.specs.Entries.{Listed}
 use Rattle.histories.specs.States.{state_after}
 use Rattle.session_boots.proofs.Acting.{acts_none}
-use Rattle.session.proofs.Places.{bare_none, quit_none, returned_may, returned_shut, returned_stops, stopped_shut}
+use Rattle.session.proofs.States.{bare_none, quit_none, returned_may, returned_shut, returned_stops, stopped_shut}
 use Rattle.session.proofs.whole.stop_standing.Goals as goal
 
 -- ---- none stands
@@ -20,7 +20,7 @@ returns-then-stopped-clause-trace g c = λ p d returned serves.
 
 pub returns-then-stopped-clause-none : goal.returns-then-stopped-clause-none
 returns-then-stopped-clause-none g c =
-    let q = c.requires.placed in
+    let q = c.requires.from_state in
     let told = Listed g.R.Runner.list g.R.Runner.told g.R.Runner.asked c.args.runner.now in
     let world = g.S.Supervise.world c.args.supervisor.now in
     let living = g.R.Runner.living c.args.runner.now in
@@ -31,9 +31,9 @@ returns-then-stopped-clause-none g c =
 pub stop_components-requires-clause-drives : goal.stop_components-requires-clause-drives
 stop_components-requires-clause-drives g c = c.requires.drives
 
-pub stop_components-requires-clause-placed : goal.stop_components-requires-clause-placed
-stop_components-requires-clause-placed g c =
-    let q = c.requires.placed in
+pub stop_components-requires-clause-from_state : goal.stop_components-requires-clause-from_state
+stop_components-requires-clause-from_state g c =
+    let q = c.requires.from_state in
     let told = Listed g.R.Runner.list g.R.Runner.told g.R.Runner.asked c.args.runner.now in
     (q.0, q.1, returned_stops q.0 q.1 (g.S.Supervise.world c.args.supervisor.now) told (g.R.Runner.living c.args.runner.now) q.2 q.3)
 
@@ -53,7 +53,7 @@ returns-clause-trace g c = λ p d returned serves.
 
 pub returns-clause-none : goal.returns-clause-none
 returns-clause-none g c =
-    let q = c.requires.placed in
+    let q = c.requires.from_state in
     let told = Listed g.R.Runner.list g.R.Runner.told g.R.Runner.asked c.args.runner.now in
     let t = c.stop_components.ensures.trace q.0 q.1
     (returned_stops q.0 q.1 (g.S.Supervise.world c.args.supervisor.now) told (g.R.Runner.living c.args.runner.now) q.2 q.3) in

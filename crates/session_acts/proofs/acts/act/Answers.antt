@@ -44,9 +44,9 @@ returns-in-Broke-clause-trace g c = λ p runs.
     let m = handed c.orderly_laws.ensures p v w told living list _ runs n in
     (m.h, m.acts, broke_at (state_after p m.h) w told living c.in-Broke.who c.in-Broke.step c.in-Broke.exit m.within m.hands)
 
-pub start_step-requires-clause-placed : goal.start_step-requires-clause-placed
-start_step-requires-clause-placed g c =
-    let q = c.requires.placed in
+pub start_step-requires-clause-from_state : goal.start_step-requires-clause-from_state
+start_step-requires-clause-from_state g c =
+    let q = c.requires.from_state in
     let told = Listed g.R.Runner.list g.R.Runner.told g.R.Runner.asked c.args.runner.now in
     let living = g.R.Runner.living c.args.runner.now in
     let list = g.R.Runner.list c.args.runner.now in
@@ -78,7 +78,7 @@ returns-in-Start-clause-trace g c = λ p runs.
 
 pub kill-requires : goal.kill-requires
 kill-requires g c =
-    let q = c.requires.placed in
+    let q = c.requires.from_state in
     let told = Listed g.R.Runner.list g.R.Runner.told g.R.Runner.asked c.args.runner.now in
     let living = g.R.Runner.living c.args.runner.now in
     let list = g.R.Runner.list c.args.runner.now in

@@ -15,6 +15,6 @@ returns c = record {
   keeps_ended = c.events_keep_order.ensures.ends;
   owner_ended = c.children_go_alone.ensures.ends;
   keeps_told = c.events_keep_order.ensures.tellings;
-  owner_told = c.tellings_keep.ensures.owners;
+  owner_heard = c.tellings_keep.ensures.owners;
   keeps_later = c.events_keep_order.ensures.time;
 }

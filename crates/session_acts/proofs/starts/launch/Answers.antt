@@ -10,12 +10,12 @@ use Rattle.session_acts.proofs.starts.launch.Goals as goal
 
 pub command-requires : goal.command-requires
 command-requires g c =
-    let q = c.requires.placed in
+    let q = c.requires.from_state in
     prepared_world c.args.who c.args.step (g.S.Supervise.world c.args.supervisor.now) q.0.world q.1.world_is q.1.start
 
 pub event-requires-clause-answers : goal.event-requires-clause-answers
 event-requires-clause-answers g c =
-    let q = c.requires.placed in
+    let q = c.requires.from_state in
     let v = g.S.Supervise.world c.args.supervisor.now in
     let old = Listed g.R.Runner.list g.R.Runner.told g.R.Runner.asked c.args.runner.now in
     let new = is_new q.0 old (g.R.Runner.living c.args.runner.now) c.in-Ok.child q.1.within c.in-Ok.ensures.fresh in (
@@ -25,17 +25,17 @@ event-requires-clause-answers g c =
 
 pub event-requires-clause-late : goal.event-requires-clause-late
 event-requires-clause-late g c =
-    let q = c.requires.placed in
+    let q = c.requires.from_state in
     omega (arith, ap (λ (w : Components). w.moment) q.1.world_is, q.1.within.moment, c.requires.now.0)
 
 pub event-requires-in-Err-clause-answers : goal.event-requires-in-Err-clause-answers
 event-requires-in-Err-clause-answers g c =
-    let q = c.requires.placed in
+    let q = c.requires.from_state in
     handed_world c.args.who c.args.step (g.S.Supervise.world c.args.supervisor.now) q.0.world q.1.world_is q.1.start
 
 pub event-requires-in-Err-clause-late : goal.event-requires-in-Err-clause-late
 event-requires-in-Err-clause-late g c =
-    let q = c.requires.placed in
+    let q = c.requires.from_state in
     omega (arith, ap (λ (w : Components). w.moment) q.1.world_is, q.1.within.moment, c.requires.now.0)
 
 pub returns-in-Ok-clause-trace : goal.returns-in-Ok-clause-trace
@@ -70,12 +70,12 @@ returns-in-Err-clause-trace g c = λ p may.
 
 pub returns-in-Ok-clause-answered : goal.returns-in-Ok-clause-answered
 returns-in-Ok-clause-answered g c =
-    let q = c.requires.placed in
+    let q = c.requires.from_state in
     let world = g.S.Supervise.world c.args.supervisor.now in
     (handed_world c.args.who c.args.step world q.0.world q.1.world_is q.1.start, inr (inr (c.in-Ok.child, c.event.ensures)))
 
 pub returns-in-Err-clause-answered : goal.returns-in-Err-clause-answered
 returns-in-Err-clause-answered g c =
-    let q = c.requires.placed in
+    let q = c.requires.from_state in
     let world = g.S.Supervise.world c.args.supervisor.now in
     (handed_world c.args.who c.args.step world q.0.world q.1.world_is q.1.start, inr (inl c.event-in-Err.ensures))

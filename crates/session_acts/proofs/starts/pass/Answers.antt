@@ -9,7 +9,7 @@ use Rattle.session_acts.proofs.starts.pass.Goals as goal
 
 pub event-requires-clause-late : goal.event-requires-clause-late
 event-requires-clause-late g c =
-    let q = c.requires.placed in
+    let q = c.requires.from_state in
     let past = g.met.R.Runner.past c.args.runner.now in
     omega (arith, q.2.stands.not_before, past, c.moment-now.ensures.later)
 
@@ -25,7 +25,7 @@ returns-clause-trace g c = λ p d q.
           (omega (arith, past, c.moment-now.ensures.later)) c.moment-now.ensures.list,
       subst (λ (w : Components). IsInTurn (leaves p (ReadClock now)) w new (g.R.Runner.living c.moment-now.new.self)) (sym c.event.ensures)
           (pass_runs c.orderly_laws.ensures p d world old new (g.R.Runner.living c.args.runner.now) (g.R.Runner.living c.moment-now.new.self) now q
-          c.moment-now.ensures.told c.moment-now.ensures.asked c.moment-now.ensures.lives),
+          c.moment-now.ensures.moment c.moment-now.ensures.asked c.moment-now.ensures.lives),
     )
 
 pub returns-clause-passed : goal.returns-clause-passed

@@ -11,25 +11,25 @@ use Rattle.session_acts.proofs.starts.start_step.Goals as goal
 
 pub event-requires-clause-answers : goal.event-requires-clause-answers
 event-requires-clause-answers g c =
-    let q = c.requires.placed in
+    let q = c.requires.from_state in
     handed_world c.args.who c.args.step (g.S.Supervise.world c.args.supervisor.now) q.0.world q.1.world_is q.1.start
 
 pub event-requires-clause-late : goal.event-requires-clause-late
 event-requires-clause-late g c =
-    let q = c.requires.placed in
+    let q = c.requires.from_state in
     omega (arith, ap (λ (w : Components). w.moment) q.1.world_is, q.1.within.moment, c.requires.now.0)
 
 pub launch-requires-clause-now : goal.launch-requires-clause-now
-launch-requires-clause-now g c = (c.is_skipped.ensures.told ∙ c.requires.now.0, c.requires.now.1)
+launch-requires-clause-now g c = (c.is_skipped.ensures.moment ∙ c.requires.now.0, c.requires.now.1)
 
-pub launch-requires-clause-placed : goal.launch-requires-clause-placed
-launch-requires-clause-placed g c =
-    let q = c.requires.placed in
+pub launch-requires-clause-from_state : goal.launch-requires-clause-from_state
+launch-requires-clause-from_state g c =
+    let q = c.requires.from_state in
     let s = c.is_skipped.ensures.starts c.if-is_skipped.false q.0 q.1 in
     (state_after q.0 s.0, s.2)
 
 pub returns-then-is_skipped-clause-now : goal.returns-then-is_skipped-clause-now
-returns-then-is_skipped-clause-now g c = c.is_skipped.ensures.told ∙ c.requires.now.0
+returns-then-is_skipped-clause-now g c = c.is_skipped.ensures.moment ∙ c.requires.now.0
 
 pub returns-then-is_skipped-clause-trace : goal.returns-then-is_skipped-clause-trace
 returns-then-is_skipped-clause-trace g c = λ p starting.
@@ -57,7 +57,7 @@ returns-clause-trace g c = λ p starting.
 
 pub returns-then-is_skipped-clause-answered : goal.returns-then-is_skipped-clause-answered
 returns-then-is_skipped-clause-answered g c =
-    let q = c.requires.placed in
+    let q = c.requires.from_state in
     let world = g.S.Supervise.world c.args.supervisor.now in
     (handed_world c.args.who c.args.step world q.0.world q.1.world_is q.1.start, inl c.event.ensures)
 

@@ -8,13 +8,13 @@ use Rattle.session_acts.proofs.waits.wait.Goals as goal
 
 pub event-requires-clause-answers : goal.event-requires-clause-answers
 event-requires-clause-answers g c =
-    let q = c.requires.placed in
+    let q = c.requires.from_state in
     owns_world q.0 (g.S.Supervise.world c.args.supervisor.now) (Listed g.R.Runner.list g.R.Runner.told g.R.Runner.asked c.args.runner.now)
     (g.R.Runner.living c.args.runner.now) c.in-Ended.child q.1.runs c.in-Ended.ensures.lives.0
 
 pub event-requires-clause-late : goal.event-requires-clause-late
 event-requires-clause-late g c =
-    let q = c.requires.placed in
+    let q = c.requires.from_state in
     omega (arith, ap (λ (w : Components). w.moment) q.1.runs.world_is, q.1.runs.within.moment, c.requires.now.0)
 
 pub returns-in-Ended-clause-trace : goal.returns-in-Ended-clause-trace
@@ -29,7 +29,7 @@ returns-in-Ended-clause-trace g c = λ p ready.
 
 pub returns-in-Ended-clause-waited : goal.returns-in-Ended-clause-waited
 returns-in-Ended-clause-waited g c =
-    let q = c.requires.placed in
+    let q = c.requires.from_state in
     let own = owns_world q.0 (g.S.Supervise.world c.args.supervisor.now) (Listed g.R.Runner.list g.R.Runner.told g.R.Runner.asked c.args.runner.now)
     (g.R.Runner.living c.args.runner.now) c.in-Ended.child q.1.runs c.in-Ended.ensures.lives.0 in
     inl (c.in-Ended.child, c.in-Ended.exit, own, c.event.ensures)

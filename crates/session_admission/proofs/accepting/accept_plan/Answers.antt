@@ -13,7 +13,7 @@ use Rattle.records.specs.Stored.{Accepted, plan_view}
 use Rattle.histories.specs.TraceEvents.{Recorded}
 use Rattle.session_boots.specs.Lines.{accepted_line}
 use Rattle.session_boots.proofs.Told.{stops_last}
-use Rattle.session_admission.specs.Accepts.{Answer, HasTaken, OwnsTaken, IsFullAt, IsFullOrShort, IsTakenOf}
+use Rattle.session_admission.specs.Accepts.{AcceptAnswer, HasTaken, OwnsTaken, IsFullAt, IsFullOrShort, IsTakenOf}
 use Rattle.session_admission.proofs.Opening.{accept_went, line_is, opened_by, refusal_back, refusal_edge, refusal_fails, refusal_fills, refusal_full}
 use Rattle.session_admission.proofs.Opening.{refusal_held, refusal_stops, refusal_taken, sited_at, stopped_answer, stops_refusal}
 use Rattle.session_admission.proofs.accepting.accept_plan.Goals as goal
@@ -65,26 +65,26 @@ returns-in-Err-clause-trace g c = λ taken p world told living opens.
 
 pub returns-in-Err-clause-taken : goal.returns-in-Err-clause-taken
 returns-in-Err-clause-taken g c =
-    subst (λ (r : Answer _). IfOk r (IsTakenOf (idle_device c.args.idle) (plan_view c.args.plan))) (sym c.answer_to.ensures)
+    subst (λ (r : AcceptAnswer _). IfOk r (IsTakenOf (idle_device c.args.idle) (plan_view c.args.plan))) (sym c.answer_to.ensures)
     (refusal_taken c.in-Err.refusal (λ s. OwnsIdle g.D.Disk.is_modelled g.D.Disk.may_leave g.J.Journal.stands g.J.Journal.end s c.accept.new.disk)
     (idle_device c.args.idle) (plan_view c.args.plan) c.in-Err.ensures.back)
 
 pub returns-in-Err-clause-held : goal.returns-in-Err-clause-held
 returns-in-Err-clause-held g c =
-    subst (λ (r : Answer _). IfOk r (λ x. OwnsTaken g.D.Disk.is_modelled g.D.Disk.may_leave g.J.Journal.stands g.J.Journal.end x c.accept.new.disk))
+    subst (λ (r : AcceptAnswer _). IfOk r (λ x. OwnsTaken g.D.Disk.is_modelled g.D.Disk.may_leave g.J.Journal.stands g.J.Journal.end x c.accept.new.disk))
     (sym c.answer_to.ensures)
     (refusal_held g.D.Disk.is_modelled g.D.Disk.may_leave g.J.Journal.stands g.J.Journal.end c.in-Err.refusal c.accept.new.disk (idle_device c.args.idle)
     c.in-Err.ensures.back)
 
 pub returns-in-Err-clause-full : goal.returns-in-Err-clause-full
 returns-in-Err-clause-full g c = λ at is.
-    c.in-Err.ensures.full at (refusal_full c.in-Err.refusal at (subst (λ (r : Answer _). IsFullAt r at) c.answer_to.ensures is))
+    c.in-Err.ensures.full at (refusal_full c.in-Err.refusal at (subst (λ (r : AcceptAnswer _). IsFullAt r at) c.answer_to.ensures is))
 
 pub returns-in-Err-clause-fills : goal.returns-in-Err-clause-fills
 returns-in-Err-clause-fills g c = λ far.
     let at = start_of g.J.Journal.end g.J.Journal.number g.J.Journal.turns (idle_log c.args.idle) (idle_device c.args.idle)
     (plan_bytes (plan_view c.args.plan)) in
-    subst (λ (r : Answer _). IsFullOrShort r at) (sym c.answer_to.ensures) (refusal_fills c.in-Err.refusal at (c.in-Err.ensures.fills far))
+    subst (λ (r : AcceptAnswer _). IsFullOrShort r at) (sym c.answer_to.ensures) (refusal_fills c.in-Err.refusal at (c.in-Err.ensures.fills far))
 
 pub returns-in-Err-clause-disk : goal.returns-in-Err-clause-disk
 returns-in-Err-clause-disk g c = λ is. c.in-Err.ensures.cause (refusal_stops c.in-Err.refusal (sym c.answer_to.ensures ∙ is))

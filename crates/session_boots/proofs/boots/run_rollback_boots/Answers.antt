@@ -12,8 +12,8 @@ pub run_stage-requires-clause-made : goal.run_stage-requires-clause-made
 run_stage-requires-clause-made g c = stage_backing (backing_device c.args.state) c.args.made.now c.requires.held.1 c.requires.made
 
 pub returns-clause-trace : goal.returns-clause-trace
-returns-clause-trace g c = λ p world front.
-    let t = c.run_stage.ensures.trace p world front in
+returns-clause-trace g c = λ p world at_stage.
+    let t = c.run_stage.ensures.trace p world at_stage in
     let told = Listed g.R.Runner.list g.R.Runner.told g.R.Runner.asked c.run_stage.new.runner in
     let living = g.R.Runner.living c.run_stage.new.runner in (
       t.0,

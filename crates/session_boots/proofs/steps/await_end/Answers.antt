@@ -1,6 +1,6 @@
 use Rattle.std.proofs.Common.{◌≤◌, ◌<◌, ◌-◌, ◌^◌, ℕ, [], ◌∷◌, refl, sym, ap, subst, arith, ◌∙◌}
 use Rattle.nuc_base.specs.declared.kinds.Exit.TheVariants as exits
-use Rattle.step_runner.specs.Entries.{Listed, Notes, without}
+use Rattle.step_runner.specs.Entries.{Listed, HasNoted, without}
 use Rattle.step_runner.specs.declared.entries.Seen.TheVariants as seen
 use Rattle.step_runner.specs.Waits.{WaitTime}
 use Rattle.step_runner.specs.declared.runner.Waited.TheVariants.{Elapsed}
@@ -29,8 +29,8 @@ returns-in-Ended-clause-trace g c = λ p made alive.
     let new = Listed g.R.Runner.list g.R.Runner.told g.R.Runner.asked c.wait.new.self in
     let same = the_only c.args.child c.in-Ended.field-0 (g.R.Runner.living c.args.runner.now) c.requires.alone c.in-Ended.ensures.lives.0 in
     let at = c.requires.now in
-    let notes = subst (λ (n : ℕ). Notes old new (seen.Ended n c.in-Ended.exit (c.args.deadline - c.args.now))) same c.in-Ended.ensures.notes in
-    let here = subst (λ (n : ℕ). Notes old new (seen.Ended c.args.child c.in-Ended.exit (c.args.deadline - n))) (sym at) notes in
+    let notes = subst (λ (n : ℕ). HasNoted old new (seen.Ended n c.in-Ended.exit (c.args.deadline - c.args.now))) same c.in-Ended.ensures.notes in
+    let here = subst (λ (n : ℕ). HasNoted old new (seen.Ended c.args.child c.in-Ended.exit (c.args.deadline - n))) (sym at) notes in
     let e = ended_itself p made c.args.child c.args.deadline old new c.in-Ended.exit alive (omega (arith, c.if-deadline-now.false, at)) here in
     (Booted (entry old (seen.Ended c.args.child c.in-Ended.exit (c.args.deadline - old.moment))) made ∷ [], e.acts, e.ended)
 
@@ -48,13 +48,13 @@ returns-in-Elapsed-clause-trace g c = λ p made alive.
     (sym at) c.in-Elapsed.ensures.time in
     let late = late_after (2 ^ 62) old.moment (g.R.Runner.clock c.args.runner.now) (g.R.Runner.clock c.wait.new.self) now c.args.deadline past lt
     c.requires.in_time waited c.moment-now.ensures.later in
-    let notes = subst (λ (n : ℕ). Notes old slept (seen.Elapsed (c.args.deadline - n))) (sym at) c.in-Elapsed.ensures.notes in
+    let notes = subst (λ (n : ℕ). HasNoted old slept (seen.Elapsed (c.args.deadline - n))) (sym at) c.in-Elapsed.ensures.notes in
     let first = ReadClock now ∷ WaitElapsed (entry old (seen.Elapsed (c.args.deadline - old.moment))) ∷ [] in
     let acts = slept_acts p c.args.child c.args.deadline old slept now mid.list alive lt notes
     (omega (arith, at, past, c.in-Elapsed.ensures.time.0, c.moment-now.ensures.later)) c.moment-now.ensures.list in
-    let again = slept_alive p c.args.child c.args.deadline old mid now alive c.moment-now.ensures.told c.moment-now.ensures.asked in
+    let again = slept_alive p c.args.child c.args.deadline old mid now alive c.moment-now.ensures.moment c.moment-now.ensures.asked in
     let e = killed (state_after p first) made c.args.child c.args.deadline mid new again
-    (subst (λ (n : ℕ). c.args.deadline ≤ n) (sym c.moment-now.ensures.told) late) c.kill-in-Elapsed.ensures.notes in
+    (subst (λ (n : ℕ). c.args.deadline ≤ n) (sym c.moment-now.ensures.moment) late) c.kill-in-Elapsed.ensures.notes in
     let all = ended_on p first (Booted (entry mid (seen.Killed c.args.child)) made ∷ []) old mid new exits.TimedOut now acts refl refl e in
     (Booted (entry mid (seen.Killed c.args.child)) made ∷ first, all.acts, all.ended)
 

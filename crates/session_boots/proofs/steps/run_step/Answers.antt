@@ -23,7 +23,7 @@ returns-then-is_skipped-clause-trace g c = λ p may.
     let past = g.met.R.Runner.past c.args.runner.now in
     let passes = pass_acts p m old now old.list mid.list may (omega (arith, past, c.moment-now.ensures.later)) c.moment-now.ensures.list in
     let e = c.is_skipped.ensures.skipped c.if-is_skipped.true (leaves p (ReadClock now))
-    (pass_probe p m old mid now may c.moment-now.ensures.told c.moment-now.ensures.asked) in
+    (pass_probe p m old mid now may c.moment-now.ensures.moment c.moment-now.ensures.asked) in
     let all = ended_on p (ReadClock now ∷ []) e.0 old mid new (exits.Code (pos 0)) now passes refl refl (record { acts = e.1; ended = e.2 }) in
     (e.0 ++ ReadClock now ∷ [], all.acts, all.ended)
 
@@ -38,7 +38,7 @@ returns-in-Err-clause-trace g c = λ p may.
     let past = g.met.R.Runner.past c.args.runner.now in
     let passes = pass_acts p m old now old.list mid.list may (omega (arith, past, c.moment-now.ensures.later)) c.moment-now.ensures.list in
     let q = leaves p (ReadClock now) in
-    let s = c.is_skipped.ensures.starts c.if-is_skipped.false q (pass_probe p m old mid now may c.moment-now.ensures.told c.moment-now.ensures.asked) in
+    let s = c.is_skipped.ensures.starts c.if-is_skipped.false q (pass_probe p m old mid now may c.moment-now.ensures.moment c.moment-now.ensures.asked) in
     let e = refused (state_after q s.0) m asked new m.command s.2 refl c.in-Err.ensures.err in
     let one = ended_on q s.0 (Booted (entry asked (seen.Refused m.command)) m ∷ []) mid asked new exits.NotStarted now s.1 s.3.world s.3.generation e in
     let all = ended_on p (ReadClock now ∷ []) (Booted (entry asked (seen.Refused m.command)) m ∷ s.0) old mid new exits.NotStarted now passes refl refl one in
@@ -56,16 +56,16 @@ returns-in-Ok-clause-trace g c = λ p may.
     let past = g.met.R.Runner.past c.args.runner.now in
     let passes = pass_acts p m old now old.list mid.list may (omega (arith, past, c.moment-now.ensures.later)) c.moment-now.ensures.list in
     let q = leaves p (ReadClock now) in
-    let s = c.is_skipped.ensures.starts c.if-is_skipped.false q (pass_probe p m old mid now may c.moment-now.ensures.told c.moment-now.ensures.asked) in
+    let s = c.is_skipped.ensures.starts c.if-is_skipped.false q (pass_probe p m old mid now may c.moment-now.ensures.moment c.moment-now.ensures.asked) in
     let place = state_after q s.0 in
     let notes = c.in-Ok.ensures.ok in
     let entry_is = Booted (entry asked (seen.Started c.in-Ok.child m.command)) m in
     let starts = started_acts place m asked begun c.in-Ok.child m.command s.2 refl notes in
-    let at = c.is_skipped.ensures.told ∙ c.moment-now.ensures.told in
+    let at = c.is_skipped.ensures.moment ∙ c.moment-now.ensures.moment in
     let until_it = ap (λ (x : ℕ). deadline_after m.limit_ms x) at ∙ c.deadline_of-deadline.ensures.deadline in
     let alive = started_alive place m asked begun c.in-Ok.child m.command c.deadline_of-deadline.result s.2 notes until_it in
     let w = c.await_end.ensures.trace (leaves place entry_is) m alive in
-    let world = now_world place asked s.2.is_told in
+    let world = now_world place asked s.2.up_to_date in
     let first = ended_on place (entry_is ∷ []) w.0 asked begun new c.await_end.result asked.moment starts world refl (record { acts = w.1; ended = w.2 }) in
     let one = ended_on q s.0 (w.0 ++ entry_is ∷ []) mid asked new c.await_end.result now s.1 s.3.world s.3.generation first in
     let all = ended_on p (ReadClock now ∷ []) ((w.0 ++ entry_is ∷ []) ++ s.0) old mid new c.await_end.result now passes refl refl one in

@@ -26,18 +26,18 @@ roll_on-requires-clause-held g c = subst (λ (b : Backed _). OwnsBacked g.D.Disk
 pub roll_on-requires-clause-ready : goal.roll_on-requires-clause-ready
 roll_on-requires-clause-ready g c = subst (λ (b : Backed _). EndsBacks b (g.S.Supervise.coming c.args.ready)) c.in-Rolling.is c.requires.ready
 
-pub roll_on-requires-clause-placed : goal.roll_on-requires-clause-placed
-roll_on-requires-clause-placed g c =
-    let q = c.requires.placed in (
+pub roll_on-requires-clause-from_state : goal.roll_on-requires-clause-from_state
+roll_on-requires-clause-from_state g c =
+    let q = c.requires.from_state in (
       q.0,
       subst (λ (b : Backed _). IsAtBootStage q.0 (backed_device b) (g.S.Supervise.world c.args.supervisor.now)
           (Listed g.R.Runner.list g.R.Runner.told g.R.Runner.asked c.args.runner.now) (g.R.Runner.living c.args.runner.now)) c.in-Rolling.is q.1,
     )
 
 pub returns-in-Rolling-clause-course : goal.returns-in-Rolling-clause-course
-returns-in-Rolling-clause-course g c = λ p front.
+returns-in-Rolling-clause-course g c = λ p at_stage.
     c.roll_on.ensures.course p (subst (λ (b : Backed _). IsAtBootStage p (backed_device b) (g.S.Supervise.world c.args.supervisor.now)
-    (Listed g.R.Runner.list g.R.Runner.told g.R.Runner.asked c.args.runner.now) (g.R.Runner.living c.args.runner.now)) c.in-Rolling.is front)
+    (Listed g.R.Runner.list g.R.Runner.told g.R.Runner.asked c.args.runner.now) (g.R.Runner.living c.args.runner.now)) c.in-Rolling.is at_stage)
 
 -- ---- one of the bootstraps failed
 
@@ -58,8 +58,8 @@ returns-in-Ok-clause-course g c = λ p from.
     let world = g.S.Supervise.world c.args.supervisor.now in
     let told = Listed g.R.Runner.list g.R.Runner.told g.R.Runner.asked c.args.runner.now in
     let living = g.R.Runner.living c.args.runner.now in
-    let front = subst (λ (b : Backed _). IsAtBootStage p (backed_device b) world told living) c.in-Backing.is from in
-    let t = c.in-Ok.ensures.trace p told living front (orderly_at p d world told living front.between.stands c.requires.orderly) in
+    let at_stage = subst (λ (b : Backed _). IsAtBootStage p (backed_device b) world told living) c.in-Backing.is from in
+    let t = c.in-Ok.ensures.trace p told living at_stage (orderly_at p d world told living at_stage.between.stands c.requires.orderly) in
     ended g.J.Journal.entries g.J.Journal.files c.args.disk.now c.close_failed.new.disk told.list told.list
     (g.K.Sink.held c.args.sink.now) (g.K.Sink.held c.close_failed.new.sink) p t.0
     (driven.Closed c.in-Ok.idle outcomes.UnableToRollback presences.Absent)
@@ -72,8 +72,8 @@ returns-in-Err-clause-course g c = λ p from.
     let world = g.S.Supervise.world c.args.supervisor.now in
     let told = Listed g.R.Runner.list g.R.Runner.told g.R.Runner.asked c.args.runner.now in
     let living = g.R.Runner.living c.args.runner.now in
-    let front = subst (λ (b : Backed _). IsAtBootStage p (backed_device b) world told living) c.in-Backing.is from in
-    let t = c.in-Err.ensures.trace p told living front (orderly_at p d world told living front.between.stands c.requires.orderly) in
+    let at_stage = subst (λ (b : Backed _). IsAtBootStage p (backed_device b) world told living) c.in-Backing.is from in
+    let t = c.in-Err.ensures.trace p told living at_stage (orderly_at p d world told living at_stage.between.stands c.requires.orderly) in
     given_up g.J.Journal.entries g.J.Journal.files c.args.disk.now c.close_failed.new.disk told.list told.list
     (g.K.Sink.held c.args.sink.now) (g.K.Sink.held c.close_failed.new.sink) p t.0 c.in-Err.over
     (λ x h q. DrivenLeft x h q (g.S.Supervise.world c.close_failed.new.supervisor) told living)
@@ -81,6 +81,6 @@ returns-in-Err-clause-course g c = λ p from.
 
 pub returns-in-Err-clause-none : goal.returns-in-Err-clause-none
 returns-in-Err-clause-none g c =
-    let q = c.requires.placed in
+    let q = c.requires.from_state in
     no_living q.0 (backed_device c.args.backed) (g.S.Supervise.world c.args.supervisor.now)
     (Listed g.R.Runner.list g.R.Runner.told g.R.Runner.asked c.args.runner.now) (g.R.Runner.living c.args.runner.now) q.1

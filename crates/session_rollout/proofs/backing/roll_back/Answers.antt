@@ -17,18 +17,18 @@ pub back_on-requires-clause-ready : goal.back_on-requires-clause-ready
 back_on-requires-clause-ready g c = subst (λ (b : BrokeOff _). HasWayBack (broken_device b) c.args.backs.now (g.S.Supervise.coming c.args.ready))
     c.in-Backing.is c.requires.ready
 
-pub back_on-requires-clause-placed : goal.back_on-requires-clause-placed
-back_on-requires-clause-placed g c =
-    let q = c.requires.placed in (
+pub back_on-requires-clause-from_state : goal.back_on-requires-clause-from_state
+back_on-requires-clause-from_state g c =
+    let q = c.requires.from_state in (
       q.0,
       subst (λ (b : BrokeOff _). IsAtBootStage q.0 (broken_device b) (g.S.Supervise.world c.args.supervisor.now)
           (Listed g.R.Runner.list g.R.Runner.told g.R.Runner.asked c.args.runner.now) (g.R.Runner.living c.args.runner.now)) c.in-Backing.is q.1,
     )
 
 pub returns-in-Backing-clause-course : goal.returns-in-Backing-clause-course
-returns-in-Backing-clause-course g c = λ p front.
+returns-in-Backing-clause-course g c = λ p at_stage.
     c.back_on.ensures.course p (subst (λ (b : BrokeOff _). IsAtBootStage p (broken_device b) (g.S.Supervise.world c.args.supervisor.now)
-    (Listed g.R.Runner.list g.R.Runner.told g.R.Runner.asked c.args.runner.now) (g.R.Runner.living c.args.runner.now)) c.in-Backing.is front)
+    (Listed g.R.Runner.list g.R.Runner.told g.R.Runner.asked c.args.runner.now) (g.R.Runner.living c.args.runner.now)) c.in-Backing.is at_stage)
 
 -- ---- at once by its items
 
@@ -43,15 +43,15 @@ roll_on-requires-clause-ready g c =
     set_ready c.args.backs.now (g.S.Supervise.coming c.args.ready) (rolling_device c.in-Rolling.state) held.1
     (subst (λ (b : BrokeOff _). HasWayBack (broken_device b) c.args.backs.now (g.S.Supervise.coming c.args.ready)) c.in-Rolling.is c.requires.ready)
 
-pub roll_on-requires-clause-placed : goal.roll_on-requires-clause-placed
-roll_on-requires-clause-placed g c =
-    let q = c.requires.placed in (
+pub roll_on-requires-clause-from_state : goal.roll_on-requires-clause-from_state
+roll_on-requires-clause-from_state g c =
+    let q = c.requires.from_state in (
       q.0,
       subst (λ (b : BrokeOff _). IsAtBootStage q.0 (broken_device b) (g.S.Supervise.world c.args.supervisor.now)
           (Listed g.R.Runner.list g.R.Runner.told g.R.Runner.asked c.args.runner.now) (g.R.Runner.living c.args.runner.now)) c.in-Rolling.is q.1,
     )
 
 pub returns-in-Rolling-clause-course : goal.returns-in-Rolling-clause-course
-returns-in-Rolling-clause-course g c = λ p front.
+returns-in-Rolling-clause-course g c = λ p at_stage.
     c.roll_on.ensures.course p (subst (λ (b : BrokeOff _). IsAtBootStage p (broken_device b) (g.S.Supervise.world c.args.supervisor.now)
-    (Listed g.R.Runner.list g.R.Runner.told g.R.Runner.asked c.args.runner.now) (g.R.Runner.living c.args.runner.now)) c.in-Rolling.is front)
+    (Listed g.R.Runner.list g.R.Runner.told g.R.Runner.asked c.args.runner.now) (g.R.Runner.living c.args.runner.now)) c.in-Rolling.is at_stage)

@@ -4,17 +4,17 @@ use Rattle.deploy_state.specs.States.{booting_device}
 use Rattle.components.specs.declared.kinds.Prepared.{Prepared}
 use Rattle.session_admission.proofs.Serving.{plan_ready}
 use Rattle.session_rollout.specs.Backwards.{HasWayBack}
-use Rattle.session_rollout.proofs.Fresh.{no_turn, some_turn}
+use Rattle.session_rollout.proofs.Fresh.{no_next, some_next}
 use Rattle.session_rollout.proofs.beginning.begin.Goals as goal
 
-pub stop_and_boot-requires-clause-turn : goal.stop_and_boot-requires-clause-turn
-stop_and_boot-requires-clause-turn g c =
-    some_turn _ c.next.result c.is_some.result (booting_device c.args.state) c.requires.held.1 c.requires.fresh c.next.ensures (sym c.is_some.ensures)
+pub stop_and_boot-requires-clause-next : goal.stop_and_boot-requires-clause-next
+stop_and_boot-requires-clause-next g c =
+    some_next _ c.next.result c.is_some.result (booting_device c.args.state) c.requires.held.1 c.requires.fresh c.next.ensures (sym c.is_some.ensures)
     c.if-is_some.true
 
 pub end_boots-requires-clause-through : goal.end_boots-requires-clause-through
 end_boots-requires-clause-through g c = (
-  no_turn _ c.next.result c.is_some.result (booting_device c.args.state) c.requires.held.1 c.requires.fresh c.next.ensures (sym c.is_some.ensures)
+  no_next _ c.next.result c.is_some.result (booting_device c.args.state) c.requires.held.1 c.requires.fresh c.next.ensures (sym c.is_some.ensures)
       c.if-is_some.false,
   c.requires.fresh,
 )

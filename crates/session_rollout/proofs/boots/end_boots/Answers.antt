@@ -7,7 +7,7 @@ use Rattle.histories.specs.States.{state_after}
 use Rattle.session_boots.specs.Lines.{lines_of}
 use Rattle.session_boots.specs.Same.{IsSameDeployment}
 use Rattle.session_boots.proofs.Same.{same_activated}
-use Rattle.session_boots.proofs.Told.{none_at, nothing_told}
+use Rattle.session_boots.proofs.Told.{none_at, nothing_printed}
 use Rattle.components.specs.Changes.{standing}
 use Rattle.histories.specs.Phases.{duty_of}
 use Rattle.histories.specs.Waits.{has_three}
@@ -28,9 +28,9 @@ raise_plan-requires-clause-ready g c =
     way_on c.args.backs.now (g.S.Supervise.coming c.args.ready) d (activating_device c.in-Ok.state)
     (subst (λ (x : Device). IsSameDeployment d x) (sym c.in-Ok.ensures.taken) (same_activated d)) c.requires.ready
 
-pub raise_plan-requires-clause-placed : goal.raise_plan-requires-clause-placed
-raise_plan-requires-clause-placed g c =
-    let q = c.requires.placed in
+pub raise_plan-requires-clause-from_state : goal.raise_plan-requires-clause-from_state
+raise_plan-requires-clause-from_state g c =
+    let q = c.requires.from_state in
     let told = Listed g.R.Runner.list g.R.Runner.told g.R.Runner.asked c.args.runner.now in
     let world = g.S.Supervise.world c.args.supervisor.now in
     let living = g.R.Runner.living c.args.runner.now in
@@ -57,7 +57,7 @@ returns-in-Ok-clause-course g c = λ p opened.
     joined g.J.Journal.entries g.J.Journal.files g.met.D.Disk.laws c.args.disk.now c.begin_items.new.disk c.raise_plan.new.disk told.list told.list last.list
     (g.K.Sink.held c.args.sink.now) (g.K.Sink.held c.args.sink.now) (g.K.Sink.held c.raise_plan.new.sink) p t.0 c.raise_plan.result _
     t.1
-    (nothing_told (g.K.Sink.held c.args.sink.now) (lines_of p.device (records_of t.0)) t.2)
+    (nothing_printed (g.K.Sink.held c.args.sink.now) (lines_of p.device (records_of t.0)) t.2)
     (driven_on (g.S.Supervise.world c.raise_plan.new.supervisor) last (g.R.Runner.living c.raise_plan.new.runner) t.0)
     (c.raise_plan.ensures.course (state_after p t.0) t.3)
 
@@ -65,13 +65,13 @@ returns-in-Ok-clause-course g c = λ p opened.
 
 pub kill_all-requires : goal.kill_all-requires
 kill_all-requires g c =
-    let q = c.requires.placed in
+    let q = c.requires.from_state in
     let told = Listed g.R.Runner.list g.R.Runner.told g.R.Runner.asked c.args.runner.now in
     let world = g.S.Supervise.world c.args.supervisor.now in
     let living = g.R.Runner.living c.args.runner.now in
     let orderly = orderly_at q.0 (booting_device c.args.state) world told living q.1.stands c.requires.orderly in
     let t = c.in-Err.ensures.trace q.0 world told living q.1 orderly in
-    record { placed = (state_after q.0 t.0, t.4) }
+    record { from_state = (state_after q.0 t.0, t.4) }
 
 pub returns-in-Err-clause-course : goal.returns-in-Err-clause-course
 returns-in-Err-clause-course g c = λ p opened.

@@ -22,30 +22,30 @@ close_failed-requires-clause-may g c = keeps_booting (booting_device c.args.stat
     (ap is_to_roll_back (sym c.device.ensures) ∙ sym c.is_to_roll_back.ensures ∙ c.if-is_to_roll_back.false)
 
 pub returns-in-Ok-clause-course : goal.returns-in-Ok-clause-course
-returns-in-Ok-clause-course g c = λ p front.
+returns-in-Ok-clause-course g c = λ p at_stage.
     let d = booting_device c.args.state in
     let world = g.S.Supervise.world c.args.supervisor.now in
     let told = Listed g.R.Runner.list g.R.Runner.told g.R.Runner.asked c.args.runner.now in
     let living = g.R.Runner.living c.args.runner.now in
-    let t = c.in-Ok.ensures.trace p told living front (orderly_at p d world told living front.between.stands c.requires.orderly) in
+    let t = c.in-Ok.ensures.trace p told living at_stage (orderly_at p d world told living at_stage.between.stands c.requires.orderly) in
     ended g.J.Journal.entries g.J.Journal.files c.args.disk.now c.close_failed.new.disk told.list told.list
     (g.K.Sink.held c.args.sink.now) (g.K.Sink.held c.close_failed.new.sink) p t.0
     (driven.Closed c.in-Ok.idle outcomes.RollbackNotRequested presences.Absent) _
     t.1 t.2 t.3
 
 pub returns-in-Err-clause-course : goal.returns-in-Err-clause-course
-returns-in-Err-clause-course g c = λ p front.
+returns-in-Err-clause-course g c = λ p at_stage.
     let d = booting_device c.args.state in
     let world = g.S.Supervise.world c.args.supervisor.now in
     let told = Listed g.R.Runner.list g.R.Runner.told g.R.Runner.asked c.args.runner.now in
     let living = g.R.Runner.living c.args.runner.now in
-    let t = c.in-Err.ensures.trace p told living front (orderly_at p d world told living front.between.stands c.requires.orderly) in
+    let t = c.in-Err.ensures.trace p told living at_stage (orderly_at p d world told living at_stage.between.stands c.requires.orderly) in
     given_up g.J.Journal.entries g.J.Journal.files c.args.disk.now c.close_failed.new.disk told.list told.list
     (g.K.Sink.held c.args.sink.now) (g.K.Sink.held c.close_failed.new.sink) p t.0 c.in-Err.over _
     t.1 t.2 t.3 t.4
 
 pub returns-in-Err-clause-none : goal.returns-in-Err-clause-none
 returns-in-Err-clause-none g c =
-    let q = c.requires.placed in
+    let q = c.requires.from_state in
     no_living q.0 (booting_device c.args.state) (g.S.Supervise.world c.args.supervisor.now)
     (Listed g.R.Runner.list g.R.Runner.told g.R.Runner.asked c.args.runner.now) (g.R.Runner.living c.args.runner.now) q.1

@@ -6,7 +6,7 @@ use Rattle.histories.specs.TraceEvents.{records_of}
 use Rattle.histories.specs.States.{state_after}
 use Rattle.session_boots.specs.Lines.{lines_of}
 use Rattle.session_boots.proofs.Between.{no_living}
-use Rattle.session_boots.proofs.Told.{none_at, nothing_told}
+use Rattle.session_boots.proofs.Told.{none_at, nothing_printed}
 use Rattle.session_transitions.specs.Fails.{is_to_roll_back}
 use Rattle.session_transitions.proofs.Policies.{breaks_activating, keeps_activating}
 use Rattle.session_transitions.proofs.Rising.{orderly_at}
@@ -29,37 +29,37 @@ roll_back-requires-clause-ready g c =
     way_broken c.args.backs.now (g.S.Supervise.coming c.args.ready) (activating_device c.args.state) (broken_device c.in-Ok.broke) c.in-Ok.ensures.breaks
     c.requires.ready
 
-pub roll_back-requires-clause-placed : goal.roll_back-requires-clause-placed
-roll_back-requires-clause-placed g c =
-    let q = c.requires.placed in
+pub roll_back-requires-clause-from_state : goal.roll_back-requires-clause-from_state
+roll_back-requires-clause-from_state g c =
+    let q = c.requires.from_state in
     let told = Listed g.R.Runner.list g.R.Runner.told g.R.Runner.asked c.args.runner.now in
     let t = c.in-Ok.ensures.trace q.0 (g.S.Supervise.world c.args.supervisor.now) told (g.R.Runner.living c.args.runner.now) q.1 in
     (state_after q.0 t.0, t.3)
 
 pub returns-in-Ok-clause-course : goal.returns-in-Ok-clause-course
-returns-in-Ok-clause-course g c = λ p front.
+returns-in-Ok-clause-course g c = λ p at_stage.
     let told = Listed g.R.Runner.list g.R.Runner.told g.R.Runner.asked c.args.runner.now in
     let last = Listed g.R.Runner.list g.R.Runner.told g.R.Runner.asked c.roll_back.new.runner in
-    let t = c.in-Ok.ensures.trace p (g.S.Supervise.world c.args.supervisor.now) told (g.R.Runner.living c.args.runner.now) front in
+    let t = c.in-Ok.ensures.trace p (g.S.Supervise.world c.args.supervisor.now) told (g.R.Runner.living c.args.runner.now) at_stage in
     joined g.J.Journal.entries g.J.Journal.files g.met.D.Disk.laws c.args.disk.now c.begin_rollback.new.disk c.roll_back.new.disk told.list told.list
     last.list
     (g.K.Sink.held c.args.sink.now) (g.K.Sink.held c.args.sink.now) (g.K.Sink.held c.roll_back.new.sink) p t.0 c.roll_back.result _
     t.1
-    (nothing_told (g.K.Sink.held c.args.sink.now) (lines_of p.device (records_of t.0)) t.2)
+    (nothing_printed (g.K.Sink.held c.args.sink.now) (lines_of p.device (records_of t.0)) t.2)
     (driven_on (g.S.Supervise.world c.roll_back.new.supervisor) last (g.R.Runner.living c.roll_back.new.runner) t.0)
     (c.roll_back.ensures.course (state_after p t.0) t.3)
 
 pub returns-in-Err-clause-course : goal.returns-in-Err-clause-course
-returns-in-Err-clause-course g c = λ p front.
+returns-in-Err-clause-course g c = λ p at_stage.
     let told = Listed g.R.Runner.list g.R.Runner.told g.R.Runner.asked c.args.runner.now in
-    let t = c.in-Err.ensures.trace p (g.S.Supervise.world c.args.supervisor.now) told (g.R.Runner.living c.args.runner.now) front in
+    let t = c.in-Err.ensures.trace p (g.S.Supervise.world c.args.supervisor.now) told (g.R.Runner.living c.args.runner.now) at_stage in
     given_up g.J.Journal.entries g.J.Journal.files c.args.disk.now c.begin_rollback.new.disk told.list told.list
     (g.K.Sink.held c.args.sink.now) (g.K.Sink.held c.args.sink.now) p t.0 c.in-Err.over _
     t.1 (none_at (g.K.Sink.held c.args.sink.now) p.device (records_of t.0) c.in-Err.over t.5) t.3 t.4
 
 pub returns-in-Err-clause-none : goal.returns-in-Err-clause-none
 returns-in-Err-clause-none g c =
-    let q = c.requires.placed in
+    let q = c.requires.from_state in
     no_living q.0 (activating_device c.args.state) (g.S.Supervise.world c.args.supervisor.now)
     (Listed g.R.Runner.list g.R.Runner.told g.R.Runner.asked c.args.runner.now) (g.R.Runner.living c.args.runner.now) q.1
 
@@ -70,30 +70,30 @@ close_failed-requires-clause-may g c = keeps_activating (activating_device c.arg
     (ap is_to_roll_back (sym c.device.ensures) ∙ sym c.is_to_roll_back.ensures ∙ c.if-is_to_roll_back.false)
 
 pub returns-in-Ok-close_failed-clause-course : goal.returns-in-Ok-close_failed-clause-course
-returns-in-Ok-close_failed-clause-course g c = λ p front.
+returns-in-Ok-close_failed-clause-course g c = λ p at_stage.
     let d = activating_device c.args.state in
     let world = g.S.Supervise.world c.args.supervisor.now in
     let told = Listed g.R.Runner.list g.R.Runner.told g.R.Runner.asked c.args.runner.now in
     let living = g.R.Runner.living c.args.runner.now in
-    let t = c.in-Ok-close_failed.ensures.trace p told living front (orderly_at p d world told living front.between.stands c.requires.orderly) in
+    let t = c.in-Ok-close_failed.ensures.trace p told living at_stage (orderly_at p d world told living at_stage.between.stands c.requires.orderly) in
     ended g.J.Journal.entries g.J.Journal.files c.args.disk.now c.close_failed.new.disk told.list told.list
     (g.K.Sink.held c.args.sink.now) (g.K.Sink.held c.close_failed.new.sink) p t.0
     (driven.Closed c.in-Ok-close_failed.idle outcomes.RollbackNotRequested presences.Absent) _
     t.1 t.2 t.3
 
 pub returns-in-Err-close_failed-clause-course : goal.returns-in-Err-close_failed-clause-course
-returns-in-Err-close_failed-clause-course g c = λ p front.
+returns-in-Err-close_failed-clause-course g c = λ p at_stage.
     let d = activating_device c.args.state in
     let world = g.S.Supervise.world c.args.supervisor.now in
     let told = Listed g.R.Runner.list g.R.Runner.told g.R.Runner.asked c.args.runner.now in
     let living = g.R.Runner.living c.args.runner.now in
-    let t = c.in-Err-close_failed.ensures.trace p told living front (orderly_at p d world told living front.between.stands c.requires.orderly) in
+    let t = c.in-Err-close_failed.ensures.trace p told living at_stage (orderly_at p d world told living at_stage.between.stands c.requires.orderly) in
     given_up g.J.Journal.entries g.J.Journal.files c.args.disk.now c.close_failed.new.disk told.list told.list
     (g.K.Sink.held c.args.sink.now) (g.K.Sink.held c.close_failed.new.sink) p t.0 c.in-Err-close_failed.over _
     t.1 t.2 t.3 t.4
 
 pub returns-in-Err-close_failed-clause-none : goal.returns-in-Err-close_failed-clause-none
 returns-in-Err-close_failed-clause-none g c =
-    let q = c.requires.placed in
+    let q = c.requires.from_state in
     no_living q.0 (activating_device c.args.state) (g.S.Supervise.world c.args.supervisor.now)
     (Listed g.R.Runner.list g.R.Runner.told g.R.Runner.asked c.args.runner.now) (g.R.Runner.living c.args.runner.now) q.1

@@ -15,7 +15,7 @@ use Rattle.session_rollout.proofs.failing.stay.Goals as goal
 
 pub close_failed-requires-clause-may : goal.close_failed-requires-clause-may
 close_failed-requires-clause-may g c =
-    let q = c.requires.placed in
+    let q = c.requires.from_state in
     keeps_activating (activating_device c.args.state) c.requires.held.1
     (ap (λ (x : Device). has_three (duty_of x).counts) (sym q.1.comes.stands.device_is) ∙ q.1.counts) c.requires.policy
 
@@ -30,10 +30,10 @@ returns-in-Ok-clause-course g c = λ p from.
 
 pub kill_all-requires : goal.kill_all-requires
 kill_all-requires g c =
-    let q = c.requires.placed in
+    let q = c.requires.from_state in
     let told = Listed g.R.Runner.list g.R.Runner.told g.R.Runner.asked c.args.runner.now in
     let t = c.in-Err.ensures.standing q.0 told (g.R.Runner.living c.args.runner.now) q.1 in
-    record { placed = (state_after q.0 t.0, t.4) }
+    record { from_state = (state_after q.0 t.0, t.4) }
 
 pub returns-in-Err-clause-course : goal.returns-in-Err-clause-course
 returns-in-Err-clause-course g c = λ p from.

@@ -18,21 +18,21 @@ fail_again-requires-clause-failed g c =
 
 pub raise_plan-requires-clause-room : goal.raise_plan-requires-clause-room
 raise_plan-requires-clause-room g c =
-    let q = c.requires.placed in
+    let q = c.requires.from_state in
     let world = g.S.Supervise.world c.args.supervisor.now in
     room_for_none world (g.S.Supervise.room c.args.items) (stopped_in q.0 (activating_device c.args.state) world
     (Listed g.R.Runner.list g.R.Runner.told g.R.Runner.asked c.args.runner.now) (g.R.Runner.living c.args.runner.now) q.1)
 
 pub raise_plan-requires-clause-made : goal.raise_plan-requires-clause-made
 raise_plan-requires-clause-made g c =
-    let q = c.requires.placed in
+    let q = c.requires.from_state in
     let world = g.S.Supervise.world c.args.supervisor.now in
     run_none (activating_device c.args.state) world (stopped_in q.0 (activating_device c.args.state) world
     (Listed g.R.Runner.list g.R.Runner.told g.R.Runner.asked c.args.runner.now) (g.R.Runner.living c.args.runner.now) q.1)
 
-pub raise_plan-requires-clause-placed : goal.raise_plan-requires-clause-placed
-raise_plan-requires-clause-placed g c =
-    let q = c.requires.placed in (
+pub raise_plan-requires-clause-from_state : goal.raise_plan-requires-clause-from_state
+raise_plan-requires-clause-from_state g c =
+    let q = c.requires.from_state in (
       q.0,
       opened_at q.0 (activating_device c.args.state) (g.S.Supervise.world c.args.supervisor.now)
           (Listed g.R.Runner.list g.R.Runner.told g.R.Runner.asked c.args.runner.now) (g.R.Runner.living c.args.runner.now) q.1,

@@ -42,9 +42,9 @@ fail_items-requires-clause-ready g c =
     way_on c.args.backs.now (g.S.Supervise.coming c.args.ready) (activating_device c.args.state) (activating_device c.in-Ok-Broken.state)
     (subst (λ (x : Activated _). ActivatedSame (activating_device c.args.state) x) c.in-Ok-Broken.field-0-is c.in-Ok-Broken.ensures.same) c.requires.ready
 
-pub fail_items-requires-clause-placed : goal.fail_items-requires-clause-placed
-fail_items-requires-clause-placed g c =
-    let q = c.requires.placed in
+pub fail_items-requires-clause-from_state : goal.fail_items-requires-clause-from_state
+fail_items-requires-clause-from_state g c =
+    let q = c.requires.from_state in
     let new = Listed g.R.Runner.list g.R.Runner.told g.R.Runner.asked c.activate.new.runner in
     let t = c.in-Ok-Broken.ensures.trace q.0 q.1 in (
       state_after q.0 t.0,
@@ -79,11 +79,11 @@ returns-in-Ok-Broken-clause-drives g c = c.fail_items.ensures.drives
 
 pub kill_all-requires : goal.kill_all-requires
 kill_all-requires g c =
-    let q = c.requires.placed in
+    let q = c.requires.from_state in
     let t = c.in-Err.ensures.trace q.0 q.1 in
     let new = Listed g.R.Runner.list g.R.Runner.told g.R.Runner.asked c.activate.new.runner in
     record {
-      placed = (
+      from_state = (
         state_after q.0 t.0,
         quits_given_up (state_after q.0 t.0) (g.S.Supervise.world c.activate.new.supervisor) new
             (g.R.Runner.living c.activate.new.runner) t.4,

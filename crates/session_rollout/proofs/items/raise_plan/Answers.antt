@@ -33,7 +33,7 @@ pub change_items-requires-clause-sound : goal.change_items-requires-clause-sound
 change_items-requires-clause-sound g c = subst IsSound (sym c.device.ensures) c.requires.held.0.0.sound
 
 pub change_items-requires-clause-answered : goal.change_items-requires-clause-answered
-change_items-requires-clause-answered g c = c.requires.placed.1.stands.answered
+change_items-requires-clause-answered g c = c.requires.from_state.1.stands.answered
 
 pub change_items-requires-clause-made : goal.change_items-requires-clause-made
 change_items-requires-clause-made g c = subst (λ (x : Device). RunOn x (standing (g.S.Supervise.world c.args.supervisor.now).parts)) (sym c.device.ensures)
@@ -41,9 +41,9 @@ change_items-requires-clause-made g c = subst (λ (x : Device). RunOn x (standin
 
 -- ---- they come up
 
-pub bring_up-requires-clause-placed : goal.bring_up-requires-clause-placed
-bring_up-requires-clause-placed g c =
-    let q = c.requires.placed in
+pub bring_up-requires-clause-from_state : goal.bring_up-requires-clause-from_state
+bring_up-requires-clause-from_state g c =
+    let q = c.requires.from_state in
     let told = Listed g.R.Runner.list g.R.Runner.told g.R.Runner.asked c.args.runner.now in
     let t = opened_entered q.0 (activating_device c.args.state) (device_view c.device.result.now) (g.S.Supervise.world c.args.supervisor.now)
     (g.S.Supervise.world c.change_items.new.supervisor) told (g.R.Runner.living c.args.runner.now)

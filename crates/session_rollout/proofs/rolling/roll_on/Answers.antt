@@ -34,12 +34,12 @@ close_failed-requires-clause-failed g c =
     subst (λ (o : Outcome). IsFailure o) (sym (outcome_of (rolling_device c.args.state) true c.requires.held.1 three)) tt
 
 pub returns-in-Ok-clause-course : goal.returns-in-Ok-clause-course
-returns-in-Ok-clause-course g c = λ p front.
+returns-in-Ok-clause-course g c = λ p at_stage.
     let d = rolling_device c.args.state in
     let world = g.S.Supervise.world c.args.supervisor.now in
     let told = Listed g.R.Runner.list g.R.Runner.told g.R.Runner.asked c.args.runner.now in
     let living = g.R.Runner.living c.args.runner.now in
-    let t = c.in-Ok.ensures.trace p told living front (orderly_at p d world told living front.between.stands c.requires.orderly) in
+    let t = c.in-Ok.ensures.trace p told living at_stage (orderly_at p d world told living at_stage.between.stands c.requires.orderly) in
     let now = g.S.Supervise.world c.close_failed.new.supervisor in
     let three = three_of_broken _ c.broken.result c.is_none.result false d c.requires.held.0.0.sound (inr c.requires.held.1) c.broken.ensures c.is_none.ensures
     c.if-is_none.false in
@@ -51,12 +51,12 @@ returns-in-Ok-clause-course g c = λ p front.
     (outcome_of d true c.requires.held.1 three) t.3)
 
 pub returns-in-Err-clause-course : goal.returns-in-Err-clause-course
-returns-in-Err-clause-course g c = λ p front.
+returns-in-Err-clause-course g c = λ p at_stage.
     let d = rolling_device c.args.state in
     let world = g.S.Supervise.world c.args.supervisor.now in
     let told = Listed g.R.Runner.list g.R.Runner.told g.R.Runner.asked c.args.runner.now in
     let living = g.R.Runner.living c.args.runner.now in
-    let t = c.in-Err.ensures.trace p told living front (orderly_at p d world told living front.between.stands c.requires.orderly) in
+    let t = c.in-Err.ensures.trace p told living at_stage (orderly_at p d world told living at_stage.between.stands c.requires.orderly) in
     given_up g.J.Journal.entries g.J.Journal.files c.args.disk.now c.close_failed.new.disk told.list told.list
     (g.K.Sink.held c.args.sink.now) (g.K.Sink.held c.close_failed.new.sink) p t.0 c.in-Err.over
     (λ x h q. DrivenLeft x h q (g.S.Supervise.world c.close_failed.new.supervisor) told living)
@@ -64,6 +64,6 @@ returns-in-Err-clause-course g c = λ p front.
 
 pub returns-in-Err-clause-none : goal.returns-in-Err-clause-none
 returns-in-Err-clause-none g c =
-    let q = c.requires.placed in
+    let q = c.requires.from_state in
     no_living q.0 (rolling_device c.args.state) (g.S.Supervise.world c.args.supervisor.now)
     (Listed g.R.Runner.list g.R.Runner.told g.R.Runner.asked c.args.runner.now) (g.R.Runner.living c.args.runner.now) q.1

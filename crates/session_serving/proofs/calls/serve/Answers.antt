@@ -3,10 +3,10 @@ use Rattle.step_runner.specs.Entries.{Listed}
 use Rattle.histories.specs.States.{state_after}
 use Rattle.histories.specs.TraceEvents.{records_of}
 use Rattle.histories.proofs.Joined.{records-append}
-use Rattle.deploy_state.specs.Objects.{Holds}
+use Rattle.deploy_state.specs.Objects.{OwnsOver}
 use Rattle.session.specs.Parts.{IsBack, IsOver, OwnsRan, status_of_ran}
 use Rattle.session.specs.declared.ran.Ran.{Ran}
-use Rattle.session_serving.specs.Causes.{IsCaused, watched}
+use Rattle.session_serving.specs.Causes.{IsCaused, observation}
 use Rattle.session_serving.specs.Parts.{outside}
 use Rattle.session_serving.specs.Served.{AreClosed, FinishLeft}
 use Rattle.session_serving.specs.Turns.{UpRan}
@@ -15,19 +15,19 @@ use Rattle.session_serving.proofs.Closing.{closed_both, finished_closed, halted_
 use Rattle.session_serving.proofs.Joining.{goes_both}
 use Rattle.session_serving.proofs.calls.serve.Goals as goal
 
-pub finish_pending-requires-clause-placed : goal.finish_pending-requires-clause-placed
-finish_pending-requires-clause-placed g c = let q = c.requires.placed in (q.0, c.args.turns, q.1)
+pub finish_pending-requires-clause-from_state : goal.finish_pending-requires-clause-from_state
+finish_pending-requires-clause-from_state g c = let q = c.requires.from_state in (q.0, c.args.turns, q.1)
 
 pub serve_set-requires-clause-held : goal.serve_set-requires-clause-held
 serve_set-requires-clause-held g c =
-    subst (λ (x : Ran _). Holds g.D.Disk g.J.Journal OwnsRan x c.finish_pending.new.disk) c.in-Back.is c.finish_pending.ensures.held
+    subst (λ (x : Ran _). OwnsOver g.D.Disk g.J.Journal OwnsRan x c.finish_pending.new.disk) c.in-Back.is c.finish_pending.ensures.held
 
 pub serve_set-requires-clause-up : goal.serve_set-requires-clause-up
 serve_set-requires-clause-up g c = subst (λ (x : Ran _). UpRan x (g.S.Supervise.world c.finish_pending.new.supervisor)) c.in-Back.is c.finish_pending.ensures.up
 
-pub serve_set-requires-clause-placed : goal.serve_set-requires-clause-placed
-serve_set-requires-clause-placed g c =
-    let q = c.requires.placed in
+pub serve_set-requires-clause-from_state : goal.serve_set-requires-clause-from_state
+serve_set-requires-clause-from_state g c =
+    let q = c.requires.from_state in
     let old = outside g.D.Disk g.K.Sink g.R.Runner g.L.Library g.I.Inbox c.args.disk.now c.args.sink.now c.args.runner.now c.args.library.now c.args.inbox.now
     in
     let mid = outside g.D.Disk g.K.Sink g.R.Runner g.L.Library g.I.Inbox c.finish_pending.new.disk c.finish_pending.new.sink c.finish_pending.new.runner
@@ -92,9 +92,9 @@ pub returns-in-Back-clause-caused : goal.returns-in-Back-clause-caused
 returns-in-Back-clause-caused g c =
     let m = g.D.Disk.is_modelled in
     let files = g.J.Journal.files in
-    let old = watched g.D.Disk g.K.Sink g.L.Library g.I.Inbox c.args.disk.now c.args.sink.now c.args.library.now c.args.inbox.now in
-    let mid = watched g.D.Disk g.K.Sink g.L.Library g.I.Inbox c.finish_pending.new.disk c.finish_pending.new.sink c.args.library.now c.args.inbox.now in
-    let new = watched g.D.Disk g.K.Sink g.L.Library g.I.Inbox c.serve_set.new.disk c.serve_set.new.sink c.serve_set.new.library c.serve_set.new.inbox in
+    let old = observation g.D.Disk g.K.Sink g.L.Library g.I.Inbox c.args.disk.now c.args.sink.now c.args.library.now c.args.inbox.now in
+    let mid = observation g.D.Disk g.K.Sink g.L.Library g.I.Inbox c.finish_pending.new.disk c.finish_pending.new.sink c.args.library.now c.args.inbox.now in
+    let new = observation g.D.Disk g.K.Sink g.L.Library g.I.Inbox c.serve_set.new.disk c.serve_set.new.sink c.serve_set.new.library c.serve_set.new.inbox in
     let r = c.finish_pending.result in
     let stays = back_stays r (subst (λ (x : Ran _). IsBack x) (sym c.in-Back.is) tt) c.finish_pending.ensures.stays in
     caused_on m files c.serve_set.result old mid new
@@ -104,6 +104,6 @@ pub returns-in-Over-clause-caused : goal.returns-in-Over-clause-caused
 returns-in-Over-clause-caused g c =
     let m = g.D.Disk.is_modelled in
     let files = g.J.Journal.files in
-    let old = watched g.D.Disk g.K.Sink g.L.Library g.I.Inbox c.args.disk.now c.args.sink.now c.args.library.now c.args.inbox.now in
-    let mid = watched g.D.Disk g.K.Sink g.L.Library g.I.Inbox c.finish_pending.new.disk c.finish_pending.new.sink c.args.library.now c.args.inbox.now in
+    let old = observation g.D.Disk g.K.Sink g.L.Library g.I.Inbox c.args.disk.now c.args.sink.now c.args.library.now c.args.inbox.now in
+    let mid = observation g.D.Disk g.K.Sink g.L.Library g.I.Inbox c.finish_pending.new.disk c.finish_pending.new.sink c.args.library.now c.args.inbox.now in
     subst (λ (x : Ran _). IsCaused m files (status_of_ran x) old mid) c.in-Over.is c.finish_pending.ensures.caused

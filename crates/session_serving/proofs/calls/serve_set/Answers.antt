@@ -8,19 +8,19 @@ use Rattle.step_runner.specs.Entries.{Listed}
 use Rattle.components.specs.Components.{Components}
 use Rattle.histories.specs.States.{state_after}
 use Rattle.session.specs.Parts.{IsReturned}
-use Rattle.session_serving.specs.Causes.{watched}
+use Rattle.session_serving.specs.Causes.{observation}
 use Rattle.session_serving.specs.Documents.{IsDeployedThere}
 use Rattle.session_serving.specs.Parts.{outside}
-use Rattle.session_serving.specs.Rounds.{Starves}
+use Rattle.session_serving.specs.Rounds.{WantOfMemory}
 use Rattle.session_serving.proofs.Causing.{caused_none, memory_quiet}
 use Rattle.session_serving.proofs.Ending.{ended, served_behind}
 use Rattle.session_serving.proofs.Held.{idle_stands}
 use Rattle.session_serving.proofs.Joining.{goes_acts, stands_acts, sure_acts, turns_none}
 use Rattle.session_serving.proofs.calls.serve_set.Goals as goal
 
-pub open_set-requires-clause-placed : goal.open_set-requires-clause-placed
-open_set-requires-clause-placed g c =
-    let q = c.requires.placed in
+pub open_set-requires-clause-from_state : goal.open_set-requires-clause-from_state
+open_set-requires-clause-from_state g c =
+    let q = c.requires.from_state in
     (q.0, Listed g.R.Runner.list g.R.Runner.told g.R.Runner.asked c.args.runner.now, g.R.Runner.living c.args.runner.now, q.1)
 
 -- ---- it is there
@@ -28,9 +28,9 @@ open_set-requires-clause-placed g c =
 pub serve_turns-requires-clause-up : goal.serve_turns-requires-clause-up
 serve_turns-requires-clause-up g c = c.in-Ok.ensures.up
 
-pub serve_turns-requires-clause-placed : goal.serve_turns-requires-clause-placed
-serve_turns-requires-clause-placed g c =
-    let q = c.requires.placed in
+pub serve_turns-requires-clause-from_state : goal.serve_turns-requires-clause-from_state
+serve_turns-requires-clause-from_state g c =
+    let q = c.requires.from_state in
     let told = Listed g.R.Runner.list g.R.Runner.told g.R.Runner.asked c.args.runner.now in
     let t = c.in-Ok.ensures.trace q.0 told (g.R.Runner.living c.args.runner.now) q.1 in
     (state_after q.0 t.0, t.2, t.3 ∙ q.2)
@@ -53,11 +53,11 @@ returns-in-Ok-clause-served g c = λ p un turns.
 
 pub give_up-requires : goal.give_up-requires
 give_up-requires g c =
-    let q = c.requires.placed in
+    let q = c.requires.from_state in
     let d = idle_device c.args.idle in
     let told = Listed g.R.Runner.list g.R.Runner.told g.R.Runner.asked c.args.runner.now in
     record {
-      placed = (q.0, d, subst (λ (w : Components). IsReturned q.0 d w told (g.R.Runner.living c.args.runner.now)) (sym c.in-Err.ensures.same) q.1.returned);
+      from_state = (q.0, d, subst (λ (w : Components). IsReturned q.0 d w told (g.R.Runner.living c.args.runner.now)) (sym c.in-Err.ensures.same) q.1.returned);
     }
 
 pub returns-in-Err-clause-served : goal.returns-in-Err-clause-served
@@ -78,7 +78,7 @@ returns-in-Err-clause-served g c = λ p un turns.
     let k = c.give_up.ensures.trace p d
     (subst (λ (w : Components). IsReturned p d w told (g.R.Runner.living c.args.runner.now)) (sym c.in-Err.ensures.same) un.returned) in (
       k.0 ++ [],
-      ended g.D.Disk g.J.Journal g.met.D.Disk.laws Clause c.args.turns old old new p [] k.0 [] Starves statuses.Memory false []
+      ended g.D.Disk g.J.Journal g.met.D.Disk.laws Clause c.args.turns old old new p [] k.0 [] WantOfMemory statuses.Memory false []
           (turns_none g.D.Disk g.J.Journal g.met.D.Disk.laws Clause old p stands) (omega arith)
           (goes_acts g.D.Disk g.J.Journal g.met.D.Disk.laws disk a b p k.0 stands k.1) (sure_acts g.D.Disk g.J.Journal g.met.D.Disk.laws disk a b p k.0 stands
           k.1)
@@ -91,4 +91,4 @@ returns-in-Err-clause-served g c = λ p un turns.
 pub returns-in-Err-clause-caused : goal.returns-in-Err-clause-caused
 returns-in-Err-clause-caused g c =
     caused_none g.D.Disk.is_modelled g.J.Journal.files statuses.Memory
-    (watched g.D.Disk g.K.Sink g.L.Library g.I.Inbox c.args.disk.now c.args.sink.now c.args.library.now c.args.inbox.now) memory_quiet
+    (observation g.D.Disk g.K.Sink g.L.Library g.I.Inbox c.args.disk.now c.args.sink.now c.args.library.now c.args.inbox.now) memory_quiet

@@ -7,10 +7,10 @@ use Rattle.device.specs.Devices.{Device}
 use Rattle.deploy_state.specs.States.{idle_device}
 use Rattle.step_runner.specs.Entries.{Listed}
 use Rattle.histories.specs.States.{state_after}
-use Rattle.session_serving.specs.Causes.{IsCaused, watched}
+use Rattle.session_serving.specs.Causes.{IsCaused, observation}
 use Rattle.session_serving.specs.Documents.{IsDeployedThere}
 use Rattle.session_serving.specs.Parts.{outside}
-use Rattle.session_serving.specs.Rounds.{Spent, Starves}
+use Rattle.session_serving.specs.Rounds.{Spent, WantOfMemory}
 use Rattle.session_serving.specs.Served.{ended_line}
 use Rattle.session_serving.specs.Turns.{HasEnded, TurnsLeft, status_of_turned}
 use Rattle.session_serving.specs.declared.turned.Turned.{Turned}
@@ -29,9 +29,9 @@ pub stop_spent-requires-clause-up : goal.stop_spent-requires-clause-up
 stop_spent-requires-clause-up g c =
     (idle_device c.in-On.idle, turned_up c.take_turns.result c.in-On.idle (g.S.Supervise.world c.take_turns.new.supervisor) c.in-On.is c.take_turns.ensures.up)
 
-pub stop_spent-requires-clause-placed : goal.stop_spent-requires-clause-placed
-stop_spent-requires-clause-placed g c =
-    let q = c.requires.placed in
+pub stop_spent-requires-clause-from_state : goal.stop_spent-requires-clause-from_state
+stop_spent-requires-clause-from_state g c =
+    let q = c.requires.from_state in
     let p = q.0 in
     let Clause = IsDeployedThere (g.L.Library.content c.args.library.now) in
     let old = outside g.D.Disk g.K.Sink g.R.Runner g.L.Library g.I.Inbox c.args.disk.now c.args.sink.now c.args.runner.now c.args.library.now c.args.inbox.now
@@ -65,7 +65,8 @@ returns-then-not-stop_spent-clause-served g c = λ p serving full.
     let held = g.K.Sink.held c.take_turns.new.sink in
     let count = l.2 in (
       k.0 ++ t.0,
-      ended g.D.Disk g.J.Journal g.met.D.Disk.laws Clause c.args.turns old mid new p t.0 k.0 l.0 Starves statuses.Memory false [] l.1 (omega (arith, count))
+      ended g.D.Disk g.J.Journal g.met.D.Disk.laws Clause c.args.turns old mid new p t.0 k.0 l.0
+          WantOfMemory statuses.Memory false [] l.1 (omega (arith, count))
           (goes_acts g.D.Disk g.J.Journal g.met.D.Disk.laws now a b q k.0 l.1.stands k.1)
           (sure_acts g.D.Disk g.J.Journal g.met.D.Disk.laws now a b q k.0 l.1.stands k.1) k.1.none
           (refl, record { answered = refl; waiting = refl; library = refl })
@@ -115,9 +116,9 @@ stop_all-requires-clause-up g c = (
       c.take_turns.ensures.up,
 )
 
-pub stop_all-requires-clause-placed : goal.stop_all-requires-clause-placed
-stop_all-requires-clause-placed g c =
-    let q = c.requires.placed in
+pub stop_all-requires-clause-from_state : goal.stop_all-requires-clause-from_state
+stop_all-requires-clause-from_state g c =
+    let q = c.requires.from_state in
     let p = q.0 in
     let Clause = IsDeployedThere (g.L.Library.content c.args.library.now) in
     let old = outside g.D.Disk g.K.Sink g.R.Runner g.L.Library g.I.Inbox c.args.disk.now c.args.sink.now c.args.runner.now c.args.library.now c.args.inbox.now
@@ -171,8 +172,8 @@ pub returns-then-not-stop_spent-clause-caused : goal.returns-then-not-stop_spent
 returns-then-not-stop_spent-clause-caused g c =
     let m = g.D.Disk.is_modelled in
     let files = g.J.Journal.files in
-    let old = watched g.D.Disk g.K.Sink g.L.Library g.I.Inbox c.args.disk.now c.args.sink.now c.args.library.now c.args.inbox.now in
-    let mid = watched g.D.Disk g.K.Sink g.L.Library g.I.Inbox c.take_turns.new.disk c.take_turns.new.sink c.take_turns.new.library c.take_turns.new.inbox in
+    let old = observation g.D.Disk g.K.Sink g.L.Library g.I.Inbox c.args.disk.now c.args.sink.now c.args.library.now c.args.inbox.now in
+    let mid = observation g.D.Disk g.K.Sink g.L.Library g.I.Inbox c.take_turns.new.disk c.take_turns.new.sink c.take_turns.new.library c.take_turns.new.inbox in
     let one = subst (λ (x : Turned _). IsCaused m files (status_of_turned x) old mid) c.in-On.is c.take_turns.ensures.caused in
     caused_on m files statuses.Memory old mid mid one (caused_none m files statuses.Memory mid memory_quiet)
 
@@ -180,9 +181,9 @@ pub returns-else-not-stop_spent-clause-caused : goal.returns-else-not-stop_spent
 returns-else-not-stop_spent-clause-caused g c =
     let m = g.D.Disk.is_modelled in
     let files = g.J.Journal.files in
-    let old = watched g.D.Disk g.K.Sink g.L.Library g.I.Inbox c.args.disk.now c.args.sink.now c.args.library.now c.args.inbox.now in
-    let mid = watched g.D.Disk g.K.Sink g.L.Library g.I.Inbox c.take_turns.new.disk c.take_turns.new.sink c.take_turns.new.library c.take_turns.new.inbox in
-    let new = watched g.D.Disk g.K.Sink g.L.Library g.I.Inbox c.take_turns.new.disk c.say_ended.new.sink c.take_turns.new.library c.take_turns.new.inbox in
+    let old = observation g.D.Disk g.K.Sink g.L.Library g.I.Inbox c.args.disk.now c.args.sink.now c.args.library.now c.args.inbox.now in
+    let mid = observation g.D.Disk g.K.Sink g.L.Library g.I.Inbox c.take_turns.new.disk c.take_turns.new.sink c.take_turns.new.library c.take_turns.new.inbox in
+    let new = observation g.D.Disk g.K.Sink g.L.Library g.I.Inbox c.take_turns.new.disk c.say_ended.new.sink c.take_turns.new.library c.take_turns.new.inbox in
     let one = subst (λ (x : Turned _). IsCaused m files (status_of_turned x) old mid) c.in-On.is c.take_turns.ensures.caused in
     caused_on m files c.say_ended.result old mid new one
     (caused_line m files c.say_ended.result mid (g.K.Sink.faults c.say_ended.new.sink) (over_other c.say_ended.result c.say_ended.ensures.answers)
@@ -192,14 +193,14 @@ pub returns-in-Shut-clause-caused : goal.returns-in-Shut-clause-caused
 returns-in-Shut-clause-caused g c =
     let m = g.D.Disk.is_modelled in
     let files = g.J.Journal.files in
-    let old = watched g.D.Disk g.K.Sink g.L.Library g.I.Inbox c.args.disk.now c.args.sink.now c.args.library.now c.args.inbox.now in
-    let mid = watched g.D.Disk g.K.Sink g.L.Library g.I.Inbox c.take_turns.new.disk c.take_turns.new.sink c.take_turns.new.library c.take_turns.new.inbox in
+    let old = observation g.D.Disk g.K.Sink g.L.Library g.I.Inbox c.args.disk.now c.args.sink.now c.args.library.now c.args.inbox.now in
+    let mid = observation g.D.Disk g.K.Sink g.L.Library g.I.Inbox c.take_turns.new.disk c.take_turns.new.sink c.take_turns.new.library c.take_turns.new.inbox in
     subst (λ (x : Turned _). IsCaused m files (status_of_turned x) old mid) c.in-Shut.is c.take_turns.ensures.caused
 
 pub returns-in-Over-clause-caused : goal.returns-in-Over-clause-caused
 returns-in-Over-clause-caused g c =
     let m = g.D.Disk.is_modelled in
     let files = g.J.Journal.files in
-    let old = watched g.D.Disk g.K.Sink g.L.Library g.I.Inbox c.args.disk.now c.args.sink.now c.args.library.now c.args.inbox.now in
-    let mid = watched g.D.Disk g.K.Sink g.L.Library g.I.Inbox c.take_turns.new.disk c.take_turns.new.sink c.take_turns.new.library c.take_turns.new.inbox in
+    let old = observation g.D.Disk g.K.Sink g.L.Library g.I.Inbox c.args.disk.now c.args.sink.now c.args.library.now c.args.inbox.now in
+    let mid = observation g.D.Disk g.K.Sink g.L.Library g.I.Inbox c.take_turns.new.disk c.take_turns.new.sink c.take_turns.new.library c.take_turns.new.inbox in
     subst (λ (x : Turned _). IsCaused m files (status_of_turned x) old mid) c.in-Over.is c.take_turns.ensures.caused

@@ -5,15 +5,15 @@ use Rattle.nuc_base.specs.declared.status.Status.TheVariants as statuses
 use Rattle.step_runner.specs.Entries.{Listed}
 use Rattle.histories.specs.Courses.{IsEnd}
 use Rattle.histories.specs.States.{state_after}
-use Rattle.session_serving.proofs.Places.{asking_returned}
+use Rattle.session_serving.proofs.States.{asking_returned}
 use Rattle.session_serving.proofs.ends.give_up_asking.Goals as goal
 
 pub give_up-requires : goal.give_up-requires
 give_up-requires g c =
-    let q = c.requires.placed in
+    let q = c.requires.from_state in
     let told = Listed g.R.Runner.list g.R.Runner.told g.R.Runner.asked c.args.runner.now in
     record {
-      placed = (q.0, q.1, asking_returned q.0 q.1 (g.S.Supervise.world c.args.supervisor.now) told (g.R.Runner.living c.args.runner.now) q.2);
+      from_state = (q.0, q.1, asking_returned q.0 q.1 (g.S.Supervise.world c.args.supervisor.now) told (g.R.Runner.living c.args.runner.now) q.2);
     }
 
 pub returns-in-Failed-clause-trace : goal.returns-in-Failed-clause-trace

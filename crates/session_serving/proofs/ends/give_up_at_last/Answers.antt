@@ -7,18 +7,18 @@ use Rattle.histories.specs.States.{SessionState, state_after}
 use Rattle.histories.proofs.Joined.{left-append}
 use Rattle.session_boots.proofs.Acting.{acts_on}
 use Rattle.session_serving.proofs.Hearing.{hear_all}
-use Rattle.session_serving.proofs.Places.{heard_gives_up, killed_end}
+use Rattle.session_serving.proofs.States.{heard_gives_up, killed_end}
 use Rattle.session_serving.proofs.ends.give_up_at_last.Goals as goal
 
 pub kill_all-requires : goal.kill_all-requires
 kill_all-requires g c =
-    let q = c.requires.placed in
+    let q = c.requires.from_state in
     let list = g.R.Runner.list c.args.runner.now in
     let told = Listed g.R.Runner.list g.R.Runner.told g.R.Runner.asked c.args.runner.now in
     let v = q.2 in
     let a = hear_all c.events_keep_order.ensures.tellings c.tellings_keep.ensures.owners list q.0 v.orderly v.steady.idle_is v.steady.over v.steady.cut in
     record {
-      placed = (
+      from_state = (
         state_after q.0 a.h,
         heard_gives_up q.0 q.1 (g.S.Supervise.world c.args.supervisor.now) told (g.R.Runner.living c.args.runner.now) v list a,
       );
@@ -34,5 +34,5 @@ returns-clause-trace g c = λ p d v.
       k.0 ++ a.h,
       acts_on p a.h k.0 list list (g.R.Runner.list c.kill_all.new.runner) a.acts k.1,
       subst (λ (x : SessionState). IsEnd x statuses.Memory false) (sym (left-append p k.0 a.h))
-          (killed_end q (state_after q k.0) statuses.Memory false k.2 k.3 a.told (a.boot_end ∙ v.steady.boot_end) (a.over ∙ v.steady.over) refl),
+          (killed_end q (state_after q k.0) statuses.Memory false k.2 k.3 a.owes_none (a.boot_end ∙ v.steady.boot_end) (a.over ∙ v.steady.over) refl),
     )

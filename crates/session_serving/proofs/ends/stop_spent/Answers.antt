@@ -13,8 +13,8 @@ use Rattle.session_serving.proofs.ends.stop_spent.Goals as goal
 pub settle-requires-clause-drives : goal.settle-requires-clause-drives
 settle-requires-clause-drives g c = (c.requires.up.1.drives, c.requires.up.1.steady)
 
-pub settle-requires-clause-placed : goal.settle-requires-clause-placed
-settle-requires-clause-placed g c = let q = c.requires.placed in (q.0, q.1, q.2)
+pub settle-requires-clause-from_state : goal.settle-requires-clause-from_state
+settle-requires-clause-from_state g c = let q = c.requires.from_state in (q.0, q.1, q.2)
 
 pub stop_all-requires-clause-up : goal.stop_all-requires-clause-up
 stop_all-requires-clause-up g c = (
@@ -23,9 +23,9 @@ stop_all-requires-clause-up g c = (
       c.requires.up.1 c.settle.ensures.stays,
 )
 
-pub stop_all-requires-clause-placed : goal.stop_all-requires-clause-placed
-stop_all-requires-clause-placed g c =
-    let q = c.requires.placed in
+pub stop_all-requires-clause-from_state : goal.stop_all-requires-clause-from_state
+stop_all-requires-clause-from_state g c =
+    let q = c.requires.from_state in
     let told = Listed g.R.Runner.list g.R.Runner.told g.R.Runner.asked c.settle.new.runner in
     let world = g.S.Supervise.world c.settle.new.supervisor in
     let living = g.R.Runner.living c.settle.new.runner in
@@ -49,13 +49,13 @@ returns-in-Some-clause-stopped g c = λ yes p d serving none.
 
 pub give_up_at_last-requires : goal.give_up_at_last-requires
 give_up_at_last-requires g c =
-    let q = c.requires.placed in
+    let q = c.requires.from_state in
     let told = Listed g.R.Runner.list g.R.Runner.told g.R.Runner.asked c.settle.new.runner in
     let world = g.S.Supervise.world c.settle.new.supervisor in
     let living = g.R.Runner.living c.settle.new.runner in
     let k = c.settle.ensures.trace q.0 q.1 q.2 in
     let s = settled_none q.0 (state_after q.0 k.0) q.1 world told living c.settle.result c.in-None.is k.2 in
-    record { placed = (state_after q.0 k.0, q.1, s.0) }
+    record { from_state = (state_after q.0 k.0, q.1, s.0) }
 
 pub returns-in-None-clause-killed : goal.returns-in-None-clause-killed
 returns-in-None-clause-killed g c = λ no p d serving.

@@ -6,7 +6,7 @@ use Rattle.components.specs.Platforms.{AllRunFor}
 use Rattle.step_runner.specs.Entries.{Listed}
 use Rattle.histories.specs.States.{state_after}
 use Rattle.law_serving.specs.Alike.{alone}
-use Rattle.deploy_state.specs.Objects.{Holds}
+use Rattle.deploy_state.specs.Objects.{OwnsOver}
 use Rattle.session.specs.Endings.{is_failing}
 use Rattle.session.specs.Parts.{OwnsRan, status_of_ran}
 use Rattle.session.specs.declared.ran.Ran.{Ran}
@@ -22,15 +22,15 @@ run_document-requires-clause-drives g c = c.requires.up.drives
 
 pub run_document-requires-clause-orderly : goal.run_document-requires-clause-orderly
 run_document-requires-clause-orderly g c =
-    let q = c.requires.placed in
+    let q = c.requires.from_state in
     orderly_world q.0 (g.S.Supervise.world c.args.supervisor.now) q.1.turn.world_is q.1.turn.within.orderly
 
 pub run_document-requires-clause-made : goal.run_document-requires-clause-made
 run_document-requires-clause-made g c = made_standing (idle_device c.args.idle) (g.S.Supervise.world c.args.supervisor.now) c.requires.up.made
 
-pub run_document-requires-clause-placed : goal.run_document-requires-clause-placed
-run_document-requires-clause-placed g c =
-    let q = c.requires.placed in
+pub run_document-requires-clause-from_state : goal.run_document-requires-clause-from_state
+run_document-requires-clause-from_state g c =
+    let q = c.requires.from_state in
     let told = Listed g.R.Runner.list g.R.Runner.told g.R.Runner.asked c.args.runner.now in
     (alone q.0, asked_open q.0 (idle_device c.args.idle) (g.S.Supervise.world c.args.supervisor.now) told (g.R.Runner.living c.args.runner.now) q.1)
 
@@ -59,12 +59,12 @@ returns-clause-left g c = λ p asked.
           t.2.1 t.4 t.5 t.6 c.run_document.ensures.library_later t.3 t.7
           (stays_quiet (status_of_ran r) old.faults new.faults c.run_document.ensures.quiet_disk)
           (λ s status standing is. idle_stands g.D.Disk g.J.Journal g.met.D.Disk.laws g.met.J.Journal.laws s c.run_document.new.disk
-          (subst (λ (x : Ran _). Holds g.D.Disk g.J.Journal OwnsRan x c.run_document.new.disk) is c.run_document.ensures.held) (idle_device s) refl),
+          (subst (λ (x : Ran _). OwnsOver g.D.Disk g.J.Journal OwnsRan x c.run_document.new.disk) is c.run_document.ensures.held) (idle_device s) refl),
     )
 
 pub returns-clause-stays : goal.returns-clause-stays
 returns-clause-stays g c =
-    let q = c.requires.placed in
+    let q = c.requires.from_state in
     let p = q.0 in
     let d = idle_device c.args.idle in
     let told = Listed g.R.Runner.list g.R.Runner.told g.R.Runner.asked c.args.runner.now in
@@ -77,7 +77,7 @@ returns-clause-stays g c =
 
 pub returns-clause-up : goal.returns-clause-up
 returns-clause-up g c =
-    let q = c.requires.placed in
+    let q = c.requires.from_state in
     let p = q.0 in
     let asked = q.1 in
     let d = idle_device c.args.idle in

@@ -6,31 +6,31 @@ use Rattle.nuc_base.specs.declared.status.Status.TheVariants as statuses
 use Rattle.deploy_state.specs.States.{idle_device}
 use Rattle.step_runner.specs.Entries.{Listed}
 use Rattle.histories.specs.States.{state_after}
-use Rattle.deploy_state.specs.Objects.{Holds}
+use Rattle.deploy_state.specs.Objects.{OwnsOver}
 use Rattle.session.specs.Parts.{IsBack, OwnsRan, status_of_ran}
 use Rattle.session.specs.declared.ran.Ran.{Ran}
-use Rattle.session_serving.specs.Causes.{IsCaused, watched}
+use Rattle.session_serving.specs.Causes.{IsCaused, observation}
 use Rattle.session_serving.specs.Documents.{IsDeployedThere}
 use Rattle.session_serving.specs.Parts.{outside}
 use Rattle.session_serving.specs.Turns.{DocumentLeft, UpRan, inbox_line, status_of_turned}
 use Rattle.session_serving.proofs.Again.{again_left, ready_returned}
 use Rattle.session_serving.proofs.Causing.{back_stays, caused_inbox, caused_on, caused_quiet, caused_then, exact_quiet, restart_quiet, stays_quietly}
 use Rattle.session_serving.proofs.Doing.{done_fails, done_now, done_over, restart_fails}
-use Rattle.session_serving.proofs.Places.{edge_again}
+use Rattle.session_serving.proofs.States.{edge_again}
 use Rattle.session_serving.proofs.handling.handle.Goals as goal
 
 -- ---- the call goes on
 
 pub stand_again-requires-clause-held : goal.stand_again-requires-clause-held
 stand_again-requires-clause-held g c =
-    subst (λ (x : Ran _). Holds g.D.Disk g.J.Journal OwnsRan x c.deploy_given.new.disk) c.in-Back.is c.deploy_given.ensures.held
+    subst (λ (x : Ran _). OwnsOver g.D.Disk g.J.Journal OwnsRan x c.deploy_given.new.disk) c.in-Back.is c.deploy_given.ensures.held
 
 pub stand_again-requires-clause-up : goal.stand_again-requires-clause-up
 stand_again-requires-clause-up g c = subst (λ (x : Ran _). UpRan x (g.S.Supervise.world c.deploy_given.new.supervisor)) c.in-Back.is c.deploy_given.ensures.up
 
-pub stand_again-requires-clause-placed : goal.stand_again-requires-clause-placed
-stand_again-requires-clause-placed g c =
-    let q = c.requires.placed in
+pub stand_again-requires-clause-from_state : goal.stand_again-requires-clause-from_state
+stand_again-requires-clause-from_state g c =
+    let q = c.requires.from_state in
     let old = outside g.D.Disk g.K.Sink g.R.Runner g.L.Library g.I.Inbox c.args.disk.now c.args.sink.now c.args.runner.now c.args.library.now c.args.inbox.now
     in
     let mid = outside g.D.Disk g.K.Sink g.R.Runner g.L.Library g.I.Inbox c.deploy_given.new.disk c.deploy_given.new.sink c.deploy_given.new.runner
@@ -68,7 +68,7 @@ returns-in-Ok-clause-left g c = λ p asked.
 
 pub give_up-requires : goal.give_up-requires
 give_up-requires g c =
-    let q = c.requires.placed in
+    let q = c.requires.from_state in
     let old = outside g.D.Disk g.K.Sink g.R.Runner g.L.Library g.I.Inbox c.args.disk.now c.args.sink.now c.args.runner.now c.args.library.now c.args.inbox.now
     in
     let mid = outside g.D.Disk g.K.Sink g.R.Runner g.L.Library g.I.Inbox c.deploy_given.new.disk c.deploy_given.new.sink c.deploy_given.new.runner
@@ -80,7 +80,7 @@ give_up-requires g c =
     let l = subst (λ (x : Ran _). DocumentLeft g.D.Disk g.J.Journal (IsDeployedThere (g.L.Library.content c.args.library.now)) c.args.document.now x old mid q.0
     t.0 world told living) c.in-Back.is t.1 in
     record {
-      placed = (
+      from_state = (
         state_after q.0 t.0,
         idle_device c.in-Back.idle,
         ready_returned c.in-Back.standing (state_after q.0 t.0) (idle_device c.in-Back.idle) world told living l.3,
@@ -196,8 +196,8 @@ pub returns-in-Ok-clause-caused : goal.returns-in-Ok-clause-caused
 returns-in-Ok-clause-caused g c =
     let m = g.D.Disk.is_modelled in
     let files = g.J.Journal.files in
-    let old = watched g.D.Disk g.K.Sink g.L.Library g.I.Inbox c.args.disk.now c.args.sink.now c.args.library.now c.args.inbox.now in
-    let mid = watched g.D.Disk g.K.Sink g.L.Library g.I.Inbox c.deploy_given.new.disk c.deploy_given.new.sink c.deploy_given.new.library c.args.inbox.now in
+    let old = observation g.D.Disk g.K.Sink g.L.Library g.I.Inbox c.args.disk.now c.args.sink.now c.args.library.now c.args.inbox.now in
+    let mid = observation g.D.Disk g.K.Sink g.L.Library g.I.Inbox c.deploy_given.new.disk c.deploy_given.new.sink c.deploy_given.new.library c.args.inbox.now in
     let r = c.deploy_given.result in
     let stays = back_stays r (subst (λ (x : Ran _). IsBack x) (sym c.in-Back.is) tt) c.deploy_given.ensures.stays in
     caused_then m files (status_of_turned c.stand_again.result) old mid (g.I.Inbox.faults c.done.new.self)
@@ -208,9 +208,9 @@ pub returns-in-Err-clause-caused : goal.returns-in-Err-clause-caused
 returns-in-Err-clause-caused g c =
     let m = g.D.Disk.is_modelled in
     let files = g.J.Journal.files in
-    let old = watched g.D.Disk g.K.Sink g.L.Library g.I.Inbox c.args.disk.now c.args.sink.now c.args.library.now c.args.inbox.now in
-    let mid = watched g.D.Disk g.K.Sink g.L.Library g.I.Inbox c.deploy_given.new.disk c.deploy_given.new.sink c.deploy_given.new.library c.args.inbox.now in
-    let new = watched g.D.Disk g.K.Sink g.L.Library g.I.Inbox c.deploy_given.new.disk c.say_inbox.new.sink c.deploy_given.new.library c.done.new.self in
+    let old = observation g.D.Disk g.K.Sink g.L.Library g.I.Inbox c.args.disk.now c.args.sink.now c.args.library.now c.args.inbox.now in
+    let mid = observation g.D.Disk g.K.Sink g.L.Library g.I.Inbox c.deploy_given.new.disk c.deploy_given.new.sink c.deploy_given.new.library c.args.inbox.now in
+    let new = observation g.D.Disk g.K.Sink g.L.Library g.I.Inbox c.deploy_given.new.disk c.say_inbox.new.sink c.deploy_given.new.library c.done.new.self in
     let r = c.deploy_given.result in
     let stays = back_stays r (subst (λ (x : Ran _). IsBack x) (sym c.in-Back.is) tt) c.deploy_given.ensures.stays in
     caused_on m files c.say_inbox.result old mid new
@@ -222,16 +222,16 @@ pub returns-then-not-asks_restart-clause-caused : goal.returns-then-not-asks_res
 returns-then-not-asks_restart-clause-caused g c =
     let m = g.D.Disk.is_modelled in
     let files = g.J.Journal.files in
-    let old = watched g.D.Disk g.K.Sink g.L.Library g.I.Inbox c.args.disk.now c.args.sink.now c.args.library.now c.args.inbox.now in
-    let mid = watched g.D.Disk g.K.Sink g.L.Library g.I.Inbox c.deploy_given.new.disk c.deploy_given.new.sink c.deploy_given.new.library c.args.inbox.now in
+    let old = observation g.D.Disk g.K.Sink g.L.Library g.I.Inbox c.args.disk.now c.args.sink.now c.args.library.now c.args.inbox.now in
+    let mid = observation g.D.Disk g.K.Sink g.L.Library g.I.Inbox c.deploy_given.new.disk c.deploy_given.new.sink c.deploy_given.new.library c.args.inbox.now in
     subst (λ (x : Ran _). IsCaused m files (status_of_ran x) old mid) c.in-Over.is c.deploy_given.ensures.caused
 
 pub returns-in-Ok-done-clause-caused : goal.returns-in-Ok-done-clause-caused
 returns-in-Ok-done-clause-caused g c =
     let m = g.D.Disk.is_modelled in
     let files = g.J.Journal.files in
-    let old = watched g.D.Disk g.K.Sink g.L.Library g.I.Inbox c.args.disk.now c.args.sink.now c.args.library.now c.args.inbox.now in
-    let mid = watched g.D.Disk g.K.Sink g.L.Library g.I.Inbox c.deploy_given.new.disk c.deploy_given.new.sink c.deploy_given.new.library c.args.inbox.now in
+    let old = observation g.D.Disk g.K.Sink g.L.Library g.I.Inbox c.args.disk.now c.args.sink.now c.args.library.now c.args.inbox.now in
+    let mid = observation g.D.Disk g.K.Sink g.L.Library g.I.Inbox c.deploy_given.new.disk c.deploy_given.new.sink c.deploy_given.new.library c.args.inbox.now in
     let quiet = restart_quiet c.in-Over.status (sym c.asks_restart.ensures ∙ c.if-not-asks_restart.false) in
     let one = subst (λ (x : Ran _). IsCaused m files (status_of_ran x) old mid) c.in-Over.is c.deploy_given.ensures.caused in
     caused_then m files c.in-Over.status old mid (g.I.Inbox.faults c.done-in-Over.new.self) quiet
@@ -241,9 +241,9 @@ pub returns-in-Err-done-clause-caused : goal.returns-in-Err-done-clause-caused
 returns-in-Err-done-clause-caused g c =
     let m = g.D.Disk.is_modelled in
     let files = g.J.Journal.files in
-    let old = watched g.D.Disk g.K.Sink g.L.Library g.I.Inbox c.args.disk.now c.args.sink.now c.args.library.now c.args.inbox.now in
-    let mid = watched g.D.Disk g.K.Sink g.L.Library g.I.Inbox c.deploy_given.new.disk c.deploy_given.new.sink c.deploy_given.new.library c.args.inbox.now in
-    let new = watched g.D.Disk g.K.Sink g.L.Library g.I.Inbox c.deploy_given.new.disk c.say_inbox-in-Err-done.new.sink c.deploy_given.new.library
+    let old = observation g.D.Disk g.K.Sink g.L.Library g.I.Inbox c.args.disk.now c.args.sink.now c.args.library.now c.args.inbox.now in
+    let mid = observation g.D.Disk g.K.Sink g.L.Library g.I.Inbox c.deploy_given.new.disk c.deploy_given.new.sink c.deploy_given.new.library c.args.inbox.now in
+    let new = observation g.D.Disk g.K.Sink g.L.Library g.I.Inbox c.deploy_given.new.disk c.say_inbox-in-Err-done.new.sink c.deploy_given.new.library
     c.done-in-Over.new.self in
     let quiet = restart_quiet c.in-Over.status (sym c.asks_restart.ensures ∙ c.if-not-asks_restart.false) in
     let one = subst (λ (x : Ran _). IsCaused m files (status_of_ran x) old mid) c.in-Over.is c.deploy_given.ensures.caused in

@@ -11,8 +11,8 @@ use Rattle.components.specs.Components.{Components}
 use Rattle.components.specs.Platforms.{AllRunFor}
 use Rattle.histories.specs.States.{state_after}
 use Rattle.histories.specs.TraceEvents.{TraceEvent}
-use Rattle.law_termination.specs.Drives.{Drives}
-use Rattle.session_boots.specs.Traces.{Acts}
+use Rattle.law_termination.specs.Drives.{AreDriven}
+use Rattle.session_boots.specs.Traces.{ActTrace}
 use Rattle.session_steady.specs.Serves.{IsServing}
 use Rattle.session_transitions.proofs.Standing.{change_standing, drives_standing, standing_of}
 use Rattle.session_serving.specs.Places.{AreUp}
@@ -32,7 +32,7 @@ pub change-requires-clause-few : goal.change-requires-clause-few
 change-requires-clause-few g c = subst (λ (l : List ℕ). All (λ (n : ℕ). n < 3) l) (sym c.uncounted.ensures) all_few
 
 pub change-requires-clause-answered : goal.change-requires-clause-answered
-change-requires-clause-answered g c = c.requires.placed.3.returned.stands.answered
+change-requires-clause-answered g c = c.requires.from_state.3.returned.stands.answered
 
 pub change-requires-clause-same : goal.change-requires-clause-same
 change-requires-clause-same g c =
@@ -56,7 +56,7 @@ returns-in-Ok-clause-trace g c = λ p told living unopened.
     let world = g.S.Supervise.world c.args.supervisor.now in
     let changed = changed_uncounted fitted c.uncounted.result world (g.S.Supervise.world c.change.new.self) c.change.ensures c.uncounted.ensures in
     let orderly = c.changes_keep_order.ensures fitted no_failures true p.world all_few differ unopened.returned.orderly in
-    subst (λ (w : Components). (h : List TraceEvent) × Acts p h told.list told.list × IsServing (state_after p h) d w told living
+    subst (λ (w : Components). (h : List TraceEvent) × ActTrace p h told.list told.list × IsServing (state_after p h) d w told living
     × ((state_after p h).turns ≡ p.turns)) (sym changed)
     (opened c.marks_are_least.ensures.first d o (given_origin e d o c.device-device.ensures c.in-Some.is) c.requires.pending fitted made p
     world told living unopened (λ n. c.changes_keep.ensures.owners n fitted no_failures true p.world) orderly)
@@ -77,7 +77,7 @@ returns-in-Ok-clause-up g c =
     let over = c.ready_items_may_come.ensures.take_over o e.set fitted old items c.in-Ok.ensures.made (made_standing d world c.requires.up.made o origin) in
     let new = c.changes_drive.ensures fitted no_failures true old (drives_standing world c.requires.up.drives) over none_few differ in
     subst (λ (w : Components). AreUp d w) (sym changed) (record {
-      drives = subst Drives (change_standing fitted no_failures true world) new;
+      drives = subst AreDriven (change_standing fitted no_failures true world) new;
       steady = refl;
       made = λ x is. subst (λ (q : Origin). AllRunFor q.platform (changed_to fitted no_failures true world).parts) (one_origin o x d.origin origin is)
           (subst (λ (w : Components). AllRunFor o.platform w.parts) (change_standing fitted no_failures true world)

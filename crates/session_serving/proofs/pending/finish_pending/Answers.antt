@@ -9,14 +9,14 @@ use Rattle.components.specs.Components.{Components}
 use Rattle.histories.specs.States.{SessionState, state_after}
 use Rattle.law_serving.specs.Alike.{alone}
 use Rattle.law_termination.proofs.Comes.{none_drives}
-use Rattle.deploy_state.specs.Objects.{Holds}
+use Rattle.deploy_state.specs.Objects.{OwnsOver}
 use Rattle.session.specs.Endings.{is_failing}
 use Rattle.session.specs.Parts.{OwnsRan, status_of_ran}
 use Rattle.session.specs.declared.ran.Ran.{Ran}
 use Rattle.session.specs.declared.ran.Standing.TheVariants as standings
-use Rattle.session.proofs.Places.{orderly_none}
+use Rattle.session.proofs.States.{orderly_none}
 use Rattle.session.proofs.Resuming.{loaded_hand, loaded_idle, loaded_pending, loaded_stands}
-use Rattle.session_serving.specs.Causes.{watched}
+use Rattle.session_serving.specs.Causes.{observation}
 use Rattle.session_serving.specs.Parts.{outside}
 use Rattle.session_serving.specs.Places.{IsBegun}
 use Rattle.session_serving.proofs.Causing.{caused_none, done_quiet, stays_same}
@@ -49,11 +49,11 @@ returns-in-Idle-clause-left g c = λ p turns begun.
     )
 
 pub returns-in-Idle-clause-held : goal.returns-in-Idle-clause-held
-returns-in-Idle-clause-held g c = subst (λ (s : Loaded _). Holds g.D.Disk g.J.Journal OwnsLoaded s c.args.disk.now) c.in-Idle.is c.requires.held
+returns-in-Idle-clause-held g c = subst (λ (s : Loaded _). OwnsOver g.D.Disk g.J.Journal OwnsLoaded s c.args.disk.now) c.in-Idle.is c.requires.held
 
 pub returns-in-Idle-clause-up : goal.returns-in-Idle-clause-up
 returns-in-Idle-clause-up g c =
-    let q = c.requires.placed in
+    let q = c.requires.from_state in
     none_up q.0 (idle_device c.in-Idle.idle) (g.S.Supervise.world c.args.supervisor.now) c.requires.empty
     (begun_steady q.0 (loaded_device c.args.state) (g.S.Supervise.world c.args.supervisor.now)
     (Listed g.R.Runner.list g.R.Runner.told g.R.Runner.asked c.args.runner.now) (g.R.Runner.living c.args.runner.now) q.2.start q.2.stage.between.stands)
@@ -66,9 +66,9 @@ resume-requires-clause-drives g c = none_drives (g.S.Supervise.world c.args.supe
 pub resume-requires-clause-orderly : goal.resume-requires-clause-orderly
 resume-requires-clause-orderly g c = orderly_none (g.S.Supervise.world c.args.supervisor.now) c.requires.empty
 
-pub resume-requires-clause-placed : goal.resume-requires-clause-placed
-resume-requires-clause-placed g c =
-    let q = c.requires.placed in
+pub resume-requires-clause-from_state : goal.resume-requires-clause-from_state
+resume-requires-clause-from_state g c =
+    let q = c.requires.from_state in
     let told = Listed g.R.Runner.list g.R.Runner.told g.R.Runner.asked c.args.runner.now in (
       alone q.0,
       begun_alone q.0 q.1 (loaded_device c.args.state) (g.S.Supervise.world c.args.supervisor.now) told (g.R.Runner.living c.args.runner.now) q.2,
@@ -103,12 +103,12 @@ returns-in_default-clause-left g c = λ p turns b.
           r later now lives c.resume.ensures.ends_call part alike t.1 t.3 t.2
           (stays_quiet (status_of_ran r) old.faults new.faults c.resume.ensures.quiet_disk)
           (λ s status standing is. idle_stands g.D.Disk g.J.Journal g.met.D.Disk.laws g.met.J.Journal.laws s c.resume.new.disk
-          (subst (λ (x : Ran _). Holds g.D.Disk g.J.Journal OwnsRan x c.resume.new.disk) is c.resume.ensures.held) (idle_device s) refl),
+          (subst (λ (x : Ran _). OwnsOver g.D.Disk g.J.Journal OwnsRan x c.resume.new.disk) is c.resume.ensures.held) (idle_device s) refl),
     )
 
 pub returns-in_default-clause-stays : goal.returns-in_default-clause-stays
 returns-in_default-clause-stays g c =
-    let q = c.requires.placed in
+    let q = c.requires.from_state in
     let p = q.0 in
     let told = Listed g.R.Runner.list g.R.Runner.told g.R.Runner.asked c.args.runner.now in
     let now = Listed g.R.Runner.list g.R.Runner.told g.R.Runner.asked c.resume.new.runner in
@@ -121,7 +121,7 @@ returns-in_default-clause-stays g c =
 
 pub returns-in_default-clause-up : goal.returns-in_default-clause-up
 returns-in_default-clause-up g c =
-    let q = c.requires.placed in
+    let q = c.requires.from_state in
     let p = q.0 in
     let b = q.2 in
     let d = loaded_device c.args.state in
@@ -145,7 +145,7 @@ returns-in_default-clause-up g c =
 
 pub returns-in-Idle-clause-caused : goal.returns-in-Idle-clause-caused
 returns-in-Idle-clause-caused g c = caused_none g.D.Disk.is_modelled g.J.Journal.files statuses.Done
-    (watched g.D.Disk g.K.Sink g.L.Library g.I.Inbox c.args.disk.now c.args.sink.now c.args.library.now c.args.inbox.now) done_quiet
+    (observation g.D.Disk g.K.Sink g.L.Library g.I.Inbox c.args.disk.now c.args.sink.now c.args.library.now c.args.inbox.now) done_quiet
 
 pub returns-in_default-clause-caused : goal.returns-in_default-clause-caused
 returns-in_default-clause-caused g c = record {

@@ -28,9 +28,9 @@ returns-in_default-clause-trace g c = λ p ready.
 
 -- ---- they are brought up
 
-pub open_set-requires-clause-placed : goal.open_set-requires-clause-placed
-open_set-requires-clause-placed g c =
-    let q = c.requires.placed in
+pub open_set-requires-clause-from_state : goal.open_set-requires-clause-from_state
+open_set-requires-clause-from_state g c =
+    let q = c.requires.from_state in
     let told = Listed g.R.Runner.list g.R.Runner.told g.R.Runner.asked c.args.runner.now in
     let world = g.S.Supervise.world c.args.supervisor.now in
     let living = g.R.Runner.living c.args.runner.now in
@@ -48,13 +48,13 @@ returns-in-Ok-clause-trace g c = λ p ready.
 
 pub give_up-requires : goal.give_up-requires
 give_up-requires g c =
-    let q = c.requires.placed in
+    let q = c.requires.from_state in
     let d = idle_device c.args.idle in
     let told = Listed g.R.Runner.list g.R.Runner.told g.R.Runner.asked c.args.runner.now in
     let world = g.S.Supervise.world c.args.supervisor.now in
     let living = g.R.Runner.living c.args.runner.now in
     let u = subst (λ (s : Standing). IsReady s q.0 d world told living) c.in-Nobody.is q.1 in
-    record { placed = (q.0, d, subst (λ (w : Components). IsReturned q.0 d w told living) (sym c.in-Err.ensures.same) u.returned) }
+    record { from_state = (q.0, d, subst (λ (w : Components). IsReturned q.0 d w told living) (sym c.in-Err.ensures.same) u.returned) }
 
 pub returns-in-Err-clause-trace : goal.returns-in-Err-clause-trace
 returns-in-Err-clause-trace g c = λ p ready.

@@ -13,7 +13,7 @@ use Rattle.histories.specs.TraceEvents.{Answer, InboxAsked, closed, document, no
 use Rattle.histories.proofs.Joined.{left-append}
 use Rattle.session_boots.proofs.Acting.{acts_on}
 use Rattle.session_steady.specs.Serves.{IsServing}
-use Rattle.session_serving.specs.Causes.{watched}
+use Rattle.session_serving.specs.Causes.{observation}
 use Rattle.session_serving.specs.Documents.{IsDeployedThere}
 use Rattle.session_serving.specs.Parts.{outside}
 use Rattle.session_serving.specs.Rounds.{Waited}
@@ -34,9 +34,9 @@ wait_turn-requires-clause-now g c = (c.requires.now.0, omega (arith, c.requires.
 pub wait_turn-requires-clause-drives : goal.wait_turn-requires-clause-drives
 wait_turn-requires-clause-drives g c = c.requires.up.drives
 
-pub wait_turn-requires-clause-placed : goal.wait_turn-requires-clause-placed
-wait_turn-requires-clause-placed g c =
-    let q = c.requires.placed in
+pub wait_turn-requires-clause-from_state : goal.wait_turn-requires-clause-from_state
+wait_turn-requires-clause-from_state g c =
+    let q = c.requires.from_state in
     let d = idle_device c.args.idle in
     let told = Listed g.R.Runner.list g.R.Runner.told g.R.Runner.asked c.args.runner.now in
     let world = g.S.Supervise.world c.args.supervisor.now in
@@ -114,9 +114,9 @@ handle-turned-requires-clause-given g c =
     ap (λ (x : Answered). x.is_given) (c.in-Ok.ensures.counted ∙ ap (λ (i : Incoming). after_answer (kind_of i) (g.I.Inbox.answered c.args.inbox.now))
     c.in-Document.is)
 
-pub handle-turned-requires-clause-placed : goal.handle-turned-requires-clause-placed
-handle-turned-requires-clause-placed g c =
-    let q = c.requires.placed in
+pub handle-turned-requires-clause-from_state : goal.handle-turned-requires-clause-from_state
+handle-turned-requires-clause-from_state g c =
+    let q = c.requires.from_state in
     let d = idle_device c.args.idle in
     let told = Listed g.R.Runner.list g.R.Runner.told g.R.Runner.asked c.args.runner.now in (
       state_after q.0 (InboxAsked document ∷ []),
@@ -155,7 +155,7 @@ returns-in-Document-clause-left g c = λ p asking left.
 -- ---- it gave no answer
 
 pub give_up_asking-requires : goal.give_up_asking-requires
-give_up_asking-requires g c = let q = c.requires.placed in record { placed = (q.0, idle_device c.args.idle, q.1) }
+give_up_asking-requires g c = let q = c.requires.from_state in record { from_state = (q.0, idle_device c.args.idle, q.1) }
 
 pub returns-in-Err-clause-left : goal.returns-in-Err-clause-left
 returns-in-Err-clause-left g c = λ p asking left.
@@ -182,7 +182,7 @@ pub returns-in-Nothing-clause-caused : goal.returns-in-Nothing-clause-caused
 returns-in-Nothing-clause-caused g c =
     let m = g.D.Disk.is_modelled in
     let files = g.J.Journal.files in
-    let old = watched g.D.Disk g.K.Sink g.L.Library g.I.Inbox c.args.disk.now c.args.sink.now c.args.library.now c.args.inbox.now in
+    let old = observation g.D.Disk g.K.Sink g.L.Library g.I.Inbox c.args.disk.now c.args.sink.now c.args.library.now c.args.inbox.now in
     caused_then m files statuses.Done old old (g.I.Inbox.faults c.next.new.self) done_quiet (caused_none m files statuses.Done old done_quiet)
     (c.in-Ok.ensures.quiet (λ failed. cc))
 
@@ -190,7 +190,7 @@ pub returns-in-Closed-clause-caused : goal.returns-in-Closed-clause-caused
 returns-in-Closed-clause-caused g c =
     let m = g.D.Disk.is_modelled in
     let files = g.J.Journal.files in
-    let old = watched g.D.Disk g.K.Sink g.L.Library g.I.Inbox c.args.disk.now c.args.sink.now c.args.library.now c.args.inbox.now in
+    let old = observation g.D.Disk g.K.Sink g.L.Library g.I.Inbox c.args.disk.now c.args.sink.now c.args.library.now c.args.inbox.now in
     caused_then m files statuses.Done old old (g.I.Inbox.faults c.next.new.self) done_quiet (caused_none m files statuses.Done old done_quiet)
     (c.in-Ok.ensures.quiet (λ failed. cc))
 
@@ -198,9 +198,9 @@ pub returns-in-Document-clause-caused : goal.returns-in-Document-clause-caused
 returns-in-Document-clause-caused g c =
     let m = g.D.Disk.is_modelled in
     let files = g.J.Journal.files in
-    let old = watched g.D.Disk g.K.Sink g.L.Library g.I.Inbox c.args.disk.now c.args.sink.now c.args.library.now c.args.inbox.now in
-    let mid = watched g.D.Disk g.K.Sink g.L.Library g.I.Inbox c.args.disk.now c.args.sink.now c.args.library.now c.next.new.self in
-    let new = watched g.D.Disk g.K.Sink g.L.Library g.I.Inbox c.handle-turned.new.disk c.handle-turned.new.sink c.handle-turned.new.library
+    let old = observation g.D.Disk g.K.Sink g.L.Library g.I.Inbox c.args.disk.now c.args.sink.now c.args.library.now c.args.inbox.now in
+    let mid = observation g.D.Disk g.K.Sink g.L.Library g.I.Inbox c.args.disk.now c.args.sink.now c.args.library.now c.next.new.self in
+    let new = observation g.D.Disk g.K.Sink g.L.Library g.I.Inbox c.handle-turned.new.disk c.handle-turned.new.sink c.handle-turned.new.library
     c.handle-turned.new.inbox in
     caused_on m files (status_of_turned c.handle-turned.result) old mid new
     (caused_then m files statuses.Done old old (g.I.Inbox.faults c.next.new.self) done_quiet (caused_none m files statuses.Done old done_quiet)
@@ -210,7 +210,7 @@ pub returns-in-Err-clause-caused : goal.returns-in-Err-clause-caused
 returns-in-Err-clause-caused g c =
     let m = g.D.Disk.is_modelled in
     let files = g.J.Journal.files in
-    let old = watched g.D.Disk g.K.Sink g.L.Library g.I.Inbox c.args.disk.now c.args.sink.now c.args.library.now c.args.inbox.now in
+    let old = observation g.D.Disk g.K.Sink g.L.Library g.I.Inbox c.args.disk.now c.args.sink.now c.args.library.now c.args.inbox.now in
     caused_asking m files c.in-Err.fault c.give_up_asking.result old (g.K.Sink.faults c.give_up_asking.new.sink) (g.I.Inbox.faults c.next.new.self)
     c.give_up_asking.ensures.status (λ failed. c.in-Err.ensures.cause (ap Err failed)) (λ other. c.in-Err.ensures.quiet (λ failed. other cc))
     c.give_up_asking.ensures.later c.give_up_asking.ensures.quiet

@@ -10,9 +10,9 @@ use Rattle.histories.specs.TraceEvents.{TraceEvent}
 use Rattle.histories.proofs.Joined.{left-append}
 use Rattle.session_shutdown.specs.Stops.{MayStop}
 use Rattle.session_steady.specs.Serves.{IsServing}
-use Rattle.session_serving.specs.Causes.{IsCaused, watched}
+use Rattle.session_serving.specs.Causes.{IsCaused, observation}
 use Rattle.session_serving.specs.Documents.{IsDeployedThere}
-use Rattle.session_serving.specs.Parts.{Ends, outside}
+use Rattle.session_serving.specs.Parts.{CallEnded, outside}
 use Rattle.session_serving.specs.Turns.{EndsBy, TurnLeft, status_of_turned}
 use Rattle.session_serving.proofs.Causing.{caused_none, caused_on, done_quiet}
 use Rattle.session_serving.proofs.Held.{held_on, idle_stands, turned_up}
@@ -25,7 +25,7 @@ turns-init g c = record {
   held = c.requires.held;
   up = c.requires.up;
   caused = caused_none g.D.Disk.is_modelled g.J.Journal.files statuses.Done
-      (watched g.D.Disk g.K.Sink g.L.Library g.I.Inbox c.args.disk.now c.args.sink.now c.args.library.now c.args.inbox.now) done_quiet;
+      (observation g.D.Disk g.K.Sink g.L.Library g.I.Inbox c.args.disk.now c.args.sink.now c.args.library.now c.args.inbox.now) done_quiet;
   kept = refl;
   left = λ p serving full. (
     [],
@@ -48,9 +48,9 @@ turn-requires-clause-up g c = c.turns.invariant.up
 left_over : (all left gone most at : ℕ) → all ≡ most → left + gone ≡ all → gone ≡ at → at < most → 1 ≤ left
 left_over all left gone most at a b d e = omega (arith, a, b, d, e)
 
-pub turn-requires-clause-placed : goal.turn-requires-clause-placed
-turn-requires-clause-placed g c =
-    let q = c.requires.placed in
+pub turn-requires-clause-from_state : goal.turn-requires-clause-from_state
+turn-requires-clause-from_state g c =
+    let q = c.requires.from_state in
     let w = c.turns.invariant.left q.0 q.1 q.2 in
     (state_after q.0 w.0, w.4, left_over q.0.turns (state_after q.0 w.0).turns (length w.1) c.args.turns c.turns._turn q.2 w.2.turns w.3 c.turns-test.true)
 
@@ -116,7 +116,7 @@ returns-in-Over-clause-left g c = λ p serving full.
         l.5,
         ap (λ (k : List TraceEvent). k ++ w.0) l.6 ∙ append_assoc l.1 l.0 w.0,
         turns_both g.D.Disk g.J.Journal g.met.D.Disk.laws Clause old mid l.2 p w.0 l.0 w.1 l.3 w.2 l.7,
-        subst (λ (q : SessionState). Ends g.D.Disk g.J.Journal (EndsBy Clause) l.2 new q l.1 l.4 c.in-Over.status l.5) (sym (left-append p l.0 w.0)) l.8,
+        subst (λ (q : SessionState). CallEnded g.D.Disk g.J.Journal (EndsBy Clause) l.2 new q l.1 l.4 c.in-Over.status l.5) (sym (left-append p l.0 w.0)) l.8,
         omega (arith, below, at, few, both),
       ),
     )
@@ -126,12 +126,12 @@ turns-preserved g c = record {
   held = held_on g.D.Disk g.J.Journal c.turn.result c.in-On.next c.turn.new.disk c.in-On.is c.turn.ensures.held;
   up = turned_up c.turn.result c.in-On.next (g.S.Supervise.world c.turn.new.supervisor) c.in-On.is c.turn.ensures.up;
   caused = caused_on g.D.Disk.is_modelled g.J.Journal.files statuses.Done
-      (watched g.D.Disk g.K.Sink g.L.Library g.I.Inbox c.args.disk.now c.args.sink.now c.args.library.now c.args.inbox.now)
-      (watched g.D.Disk g.K.Sink g.L.Library g.I.Inbox c.turns.disk c.turns.sink c.turns.library c.turns.inbox)
-      (watched g.D.Disk g.K.Sink g.L.Library g.I.Inbox c.turn.new.disk c.turn.new.sink c.turn.new.library c.turn.new.inbox) c.turns.invariant.caused
+      (observation g.D.Disk g.K.Sink g.L.Library g.I.Inbox c.args.disk.now c.args.sink.now c.args.library.now c.args.inbox.now)
+      (observation g.D.Disk g.K.Sink g.L.Library g.I.Inbox c.turns.disk c.turns.sink c.turns.library c.turns.inbox)
+      (observation g.D.Disk g.K.Sink g.L.Library g.I.Inbox c.turn.new.disk c.turn.new.sink c.turn.new.library c.turn.new.inbox) c.turns.invariant.caused
       (subst (λ (r : _). IsCaused g.D.Disk.is_modelled g.J.Journal.files (status_of_turned r)
-      (watched g.D.Disk g.K.Sink g.L.Library g.I.Inbox c.turns.disk c.turns.sink c.turns.library c.turns.inbox)
-      (watched g.D.Disk g.K.Sink g.L.Library g.I.Inbox c.turn.new.disk c.turn.new.sink c.turn.new.library c.turn.new.inbox)) c.in-On.is
+      (observation g.D.Disk g.K.Sink g.L.Library g.I.Inbox c.turns.disk c.turns.sink c.turns.library c.turns.inbox)
+      (observation g.D.Disk g.K.Sink g.L.Library g.I.Inbox c.turn.new.disk c.turn.new.sink c.turn.new.library c.turn.new.inbox)) c.in-On.is
       c.turn.ensures.caused);
   kept = c.turn.ensures.kept ∙ c.turns.invariant.kept;
   left = λ p serving full.
@@ -181,22 +181,22 @@ returns-clause-kept g c = c.turns.invariant.kept
 
 pub returns-in-Shut-clause-caused : goal.returns-in-Shut-clause-caused
 returns-in-Shut-clause-caused g c = caused_on g.D.Disk.is_modelled g.J.Journal.files statuses.Done
-    (watched g.D.Disk g.K.Sink g.L.Library g.I.Inbox c.args.disk.now c.args.sink.now c.args.library.now c.args.inbox.now)
-    (watched g.D.Disk g.K.Sink g.L.Library g.I.Inbox c.turns.disk c.turns.sink c.turns.library c.turns.inbox)
-    (watched g.D.Disk g.K.Sink g.L.Library g.I.Inbox c.turn.new.disk c.turn.new.sink c.turn.new.library c.turn.new.inbox) c.turns.invariant.caused
+    (observation g.D.Disk g.K.Sink g.L.Library g.I.Inbox c.args.disk.now c.args.sink.now c.args.library.now c.args.inbox.now)
+    (observation g.D.Disk g.K.Sink g.L.Library g.I.Inbox c.turns.disk c.turns.sink c.turns.library c.turns.inbox)
+    (observation g.D.Disk g.K.Sink g.L.Library g.I.Inbox c.turn.new.disk c.turn.new.sink c.turn.new.library c.turn.new.inbox) c.turns.invariant.caused
     (subst (λ (r : _). IsCaused g.D.Disk.is_modelled g.J.Journal.files (status_of_turned r)
-    (watched g.D.Disk g.K.Sink g.L.Library g.I.Inbox c.turns.disk c.turns.sink c.turns.library c.turns.inbox)
-    (watched g.D.Disk g.K.Sink g.L.Library g.I.Inbox c.turn.new.disk c.turn.new.sink c.turn.new.library c.turn.new.inbox)) c.in-Shut.is
+    (observation g.D.Disk g.K.Sink g.L.Library g.I.Inbox c.turns.disk c.turns.sink c.turns.library c.turns.inbox)
+    (observation g.D.Disk g.K.Sink g.L.Library g.I.Inbox c.turn.new.disk c.turn.new.sink c.turn.new.library c.turn.new.inbox)) c.in-Shut.is
     c.turn.ensures.caused)
 
 pub returns-in-Over-clause-caused : goal.returns-in-Over-clause-caused
 returns-in-Over-clause-caused g c = caused_on g.D.Disk.is_modelled g.J.Journal.files c.in-Over.status
-    (watched g.D.Disk g.K.Sink g.L.Library g.I.Inbox c.args.disk.now c.args.sink.now c.args.library.now c.args.inbox.now)
-    (watched g.D.Disk g.K.Sink g.L.Library g.I.Inbox c.turns.disk c.turns.sink c.turns.library c.turns.inbox)
-    (watched g.D.Disk g.K.Sink g.L.Library g.I.Inbox c.turn.new.disk c.turn.new.sink c.turn.new.library c.turn.new.inbox) c.turns.invariant.caused
+    (observation g.D.Disk g.K.Sink g.L.Library g.I.Inbox c.args.disk.now c.args.sink.now c.args.library.now c.args.inbox.now)
+    (observation g.D.Disk g.K.Sink g.L.Library g.I.Inbox c.turns.disk c.turns.sink c.turns.library c.turns.inbox)
+    (observation g.D.Disk g.K.Sink g.L.Library g.I.Inbox c.turn.new.disk c.turn.new.sink c.turn.new.library c.turn.new.inbox) c.turns.invariant.caused
     (subst (λ (r : _). IsCaused g.D.Disk.is_modelled g.J.Journal.files (status_of_turned r)
-    (watched g.D.Disk g.K.Sink g.L.Library g.I.Inbox c.turns.disk c.turns.sink c.turns.library c.turns.inbox)
-    (watched g.D.Disk g.K.Sink g.L.Library g.I.Inbox c.turn.new.disk c.turn.new.sink c.turn.new.library c.turn.new.inbox)) c.in-Over.is
+    (observation g.D.Disk g.K.Sink g.L.Library g.I.Inbox c.turns.disk c.turns.sink c.turns.library c.turns.inbox)
+    (observation g.D.Disk g.K.Sink g.L.Library g.I.Inbox c.turn.new.disk c.turn.new.sink c.turn.new.library c.turn.new.inbox)) c.in-Over.is
     c.turn.ensures.caused)
 
 pub returns-clause-caused : goal.returns-clause-caused

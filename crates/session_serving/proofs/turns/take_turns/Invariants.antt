@@ -4,27 +4,27 @@ use Rattle.deploy_state.specs.States.{OwnsIdle, idle_device}
 use Rattle.step_runner.specs.Entries.{Listed}
 use Rattle.histories.specs.States.{SessionState, state_after}
 use Rattle.histories.specs.TraceEvents.{TraceEvent}
-use Rattle.deploy_state.specs.Objects.{Holds}
+use Rattle.deploy_state.specs.Objects.{OwnsOver}
 use Rattle.session_steady.specs.Serves.{IsServing}
-use Rattle.session_serving.specs.Causes.{IsCaused, watched}
+use Rattle.session_serving.specs.Causes.{IsCaused, observation}
 use Rattle.session_serving.specs.Documents.{IsDeployedThere}
-use Rattle.session_serving.specs.Parts.{Turns, outside}
+use Rattle.session_serving.specs.Parts.{TurnsPassed, outside}
 use Rattle.session_serving.specs.Places.{AreUp}
 use Rattle.session_serving.specs.Rounds.{Round}
 use Rattle.session_serving.proofs.turns.take_turns.Given as goal
 
 abbrev pub invariant-turns : goal.invariant-turns
 invariant-turns g l = record {
-  held : Holds g.D.Disk g.J.Journal OwnsIdle l.idle l.disk;
+  held : OwnsOver g.D.Disk g.J.Journal OwnsIdle l.idle l.disk;
   up : AreUp (idle_device l.idle) (g.S.Supervise.world l.supervisor);
   caused : IsCaused g.D.Disk.is_modelled g.J.Journal.files statuses.Done
-      (watched g.D.Disk g.K.Sink g.L.Library g.I.Inbox l.fn.disk l.fn.sink l.fn.library l.fn.inbox)
-      (watched g.D.Disk g.K.Sink g.L.Library g.I.Inbox l.disk l.sink l.library l.inbox);
+      (observation g.D.Disk g.K.Sink g.L.Library g.I.Inbox l.fn.disk l.fn.sink l.fn.library l.fn.inbox)
+      (observation g.D.Disk g.K.Sink g.L.Library g.I.Inbox l.disk l.sink l.library l.inbox);
   kept : g.L.Library.content l.library ≡ g.L.Library.content l.fn.library;
   left : (p : SessionState) → IsServing p (idle_device l.fn.idle) (g.S.Supervise.world l.fn.supervisor)
       (Listed g.R.Runner.list g.R.Runner.told g.R.Runner.asked l.fn.runner) (g.R.Runner.living l.fn.runner) → p.turns ≡ l.fn.turns →
       (h : List TraceEvent) × (rounds : List Round)
-      × Turns g.D.Disk g.J.Journal (IsDeployedThere (g.L.Library.content l.fn.library))
+      × TurnsPassed g.D.Disk g.J.Journal (IsDeployedThere (g.L.Library.content l.fn.library))
       (outside g.D.Disk g.K.Sink g.R.Runner g.L.Library g.I.Inbox l.fn.disk l.fn.sink l.fn.runner l.fn.library l.fn.inbox)
       (outside g.D.Disk g.K.Sink g.R.Runner g.L.Library g.I.Inbox l.disk l.sink l.runner l.library l.inbox) p h rounds
       × (length rounds ≡ l._turn)

@@ -8,10 +8,10 @@ use Rattle.histories.specs.Courses.{IsEnd}
 use Rattle.histories.specs.States.{SessionState, state_after}
 use Rattle.histories.proofs.Joined.{left-append}
 use Rattle.session_boots.proofs.Acting.{acts_on}
-use Rattle.session_serving.specs.Causes.{watched}
+use Rattle.session_serving.specs.Causes.{observation}
 use Rattle.session_serving.specs.Documents.{IsDeployedThere}
 use Rattle.session_serving.specs.Parts.{outside}
-use Rattle.session_serving.specs.Rounds.{Starves}
+use Rattle.session_serving.specs.Rounds.{WantOfMemory}
 use Rattle.session_serving.proofs.Causing.{caused_none, memory_quiet}
 use Rattle.session_serving.proofs.Held.{idle_stands}
 use Rattle.session_serving.proofs.Steady.{settled_none, settled_some, up_on}
@@ -21,8 +21,8 @@ use Rattle.session_serving.proofs.turns.turn.Goals as goal
 pub settle-requires-clause-drives : goal.settle-requires-clause-drives
 settle-requires-clause-drives g c = (c.requires.up.drives, c.requires.up.steady)
 
-pub settle-requires-clause-placed : goal.settle-requires-clause-placed
-settle-requires-clause-placed g c = let q = c.requires.placed in (q.0, idle_device c.args.idle, q.1)
+pub settle-requires-clause-from_state : goal.settle-requires-clause-from_state
+settle-requires-clause-from_state g c = let q = c.requires.from_state in (q.0, idle_device c.args.idle, q.1)
 
 -- ---- every act was taken
 
@@ -33,9 +33,9 @@ pub ask-requires-clause-up : goal.ask-requires-clause-up
 ask-requires-clause-up g c = up_on (idle_device c.args.idle) (g.S.Supervise.world c.args.supervisor.now) (g.S.Supervise.world c.settle.new.supervisor)
     c.requires.up c.settle.ensures.stays
 
-pub ask-requires-clause-placed : goal.ask-requires-clause-placed
-ask-requires-clause-placed g c =
-    let q = c.requires.placed in
+pub ask-requires-clause-from_state : goal.ask-requires-clause-from_state
+ask-requires-clause-from_state g c =
+    let q = c.requires.from_state in
     let d = idle_device c.args.idle in
     let told = Listed g.R.Runner.list g.R.Runner.told g.R.Runner.asked c.settle.new.runner in
     let world = g.S.Supervise.world c.settle.new.supervisor in
@@ -69,14 +69,14 @@ returns-in-Some-clause-left g c = λ p serving left.
 
 pub give_up_at_last-requires : goal.give_up_at_last-requires
 give_up_at_last-requires g c =
-    let q = c.requires.placed in
+    let q = c.requires.from_state in
     let d = idle_device c.args.idle in
     let told = Listed g.R.Runner.list g.R.Runner.told g.R.Runner.asked c.settle.new.runner in
     let world = g.S.Supervise.world c.settle.new.supervisor in
     let living = g.R.Runner.living c.settle.new.runner in
     let k = c.settle.ensures.trace q.0 d q.1 in
     let s = settled_none q.0 (state_after q.0 k.0) d world told living c.settle.result c.in-None.is k.2 in
-    record { placed = (state_after q.0 k.0, d, s.0) }
+    record { from_state = (state_after q.0 k.0, d, s.0) }
 
 pub returns-in-None-clause-left : goal.returns-in-None-clause-left
 returns-in-None-clause-left g c = λ p serving left.
@@ -97,8 +97,8 @@ returns-in-None-clause-left g c = λ p serving left.
     c.args.inbox.now in
     let h = t.0 ++ k.0 in (
       h,
-      over_at g.D.Disk g.J.Journal g.met.D.Disk.laws Clause old p stands Starves statuses.Memory false new h
-          (given_up g.D.Disk g.J.Journal g.met.D.Disk.laws Clause old p stands Starves statuses.Memory [] new h refl
+      over_at g.D.Disk g.J.Journal g.met.D.Disk.laws Clause old p stands WantOfMemory statuses.Memory false new h
+          (given_up g.D.Disk g.J.Journal g.met.D.Disk.laws Clause old p stands WantOfMemory statuses.Memory [] new h refl
           (acts_on p k.0 t.0 (g.R.Runner.list c.args.runner.now) (g.R.Runner.list c.settle.new.runner) (g.R.Runner.list c.give_up_at_last.new.runner) k.1 t.1)
           refl refl refl (refl, record { answered = refl; waiting = refl; library = refl }) ([], [], refl, Appends-nil (g.K.Sink.held c.args.sink.now))
           (λ other. Appends-nil (g.K.Sink.held c.args.sink.now))
@@ -108,4 +108,4 @@ returns-in-None-clause-left g c = λ p serving left.
 pub returns-in-None-clause-caused : goal.returns-in-None-clause-caused
 returns-in-None-clause-caused g c =
     caused_none g.D.Disk.is_modelled g.J.Journal.files statuses.Memory
-    (watched g.D.Disk g.K.Sink g.L.Library g.I.Inbox c.args.disk.now c.args.sink.now c.args.library.now c.args.inbox.now) memory_quiet
+    (observation g.D.Disk g.K.Sink g.L.Library g.I.Inbox c.args.disk.now c.args.sink.now c.args.library.now c.args.inbox.now) memory_quiet

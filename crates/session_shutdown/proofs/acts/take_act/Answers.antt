@@ -7,8 +7,8 @@ use Rattle.session_shutdown.proofs.Falling.{falling_at}
 use Rattle.session_shutdown.proofs.Turning.{apart}
 use Rattle.session_shutdown.proofs.acts.take_act.Goals as goal
 
-pub act-requires-clause-placed : goal.act-requires-clause-placed
-act-requires-clause-placed g c = let q = c.requires.placed in (q.0, turn_of q.1)
+pub act-requires-clause-from_state : goal.act-requires-clause-from_state
+act-requires-clause-from_state g c = let q = c.requires.from_state in (q.0, turn_of q.1)
 
 pub returns-in-Nothing-clause-trace : goal.returns-in-Nothing-clause-trace
 returns-in-Nothing-clause-trace g c = λ p runs.
@@ -22,7 +22,7 @@ returns-in-Something-clause-trace g c = λ p runs.
 
 pub unreachable-requires : goal.unreachable-requires
 unreachable-requires g c =
-    let q = c.requires.placed in
+    let q = c.requires.from_state in
     absurd (none_fails c.leaving_laws.ensures q.0 q.1.within.on q.1.within.keeps (c.in-Failed.ensures.trace q.0 (turn_of q.1)))
 
 -- ---- the number
@@ -32,7 +32,7 @@ returns-in-Nothing-clause-falls g c = λ more. absurd (apart more)
 
 pub returns-in-Something-clause-falls : goal.returns-in-Something-clause-falls
 returns-in-Something-clause-falls g c = λ more.
-    let q = c.requires.placed in
+    let q = c.requires.from_state in
     let v = g.S.Supervise.world c.args.supervisor.now in
     let told = Listed g.R.Runner.list g.R.Runner.told g.R.Runner.asked c.args.runner.now in
     let f = falling_at q.0 v told (g.R.Runner.living c.args.runner.now) q.1 in
@@ -41,7 +41,7 @@ returns-in-Something-clause-falls g c = λ more.
 
 pub returns-in-Nothing-clause-not_above : goal.returns-in-Nothing-clause-not_above
 returns-in-Nothing-clause-not_above g c =
-    let q = c.requires.placed in
+    let q = c.requires.from_state in
     let v = g.S.Supervise.world c.args.supervisor.now in
     let told = Listed g.R.Runner.list g.R.Runner.told g.R.Runner.asked c.args.runner.now in
     let f = falling_at q.0 v told (g.R.Runner.living c.args.runner.now) q.1 in
@@ -49,7 +49,7 @@ returns-in-Nothing-clause-not_above g c =
 
 pub returns-in-Something-clause-not_above : goal.returns-in-Something-clause-not_above
 returns-in-Something-clause-not_above g c =
-    let q = c.requires.placed in
+    let q = c.requires.from_state in
     let v = g.S.Supervise.world c.args.supervisor.now in
     let told = Listed g.R.Runner.list g.R.Runner.told g.R.Runner.asked c.args.runner.now in
     let f = falling_at q.0 v told (g.R.Runner.living c.args.runner.now) q.1 in

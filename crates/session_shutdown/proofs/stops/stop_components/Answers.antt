@@ -4,7 +4,7 @@ use Rattle.components.specs.Components.{Components}
 use Rattle.histories.specs.TraceEvents.{StopsAll}
 use Rattle.histories.specs.States.{SessionState, leaves}
 use Rattle.histories.proofs.Joined.{left-append}
-use Rattle.law_termination.specs.Drives.{Drives}
+use Rattle.law_termination.specs.Drives.{AreDriven}
 use Rattle.law_termination.proofs.Stands.{stop_drives}
 use Rattle.session_boots.proofs.Acting.{acts_on}
 use Rattle.session_shutdown.specs.Runs.{IsAtTurnStart}
@@ -13,12 +13,12 @@ use Rattle.session_shutdown.proofs.Ended.{stop_acts, stop_comes}
 use Rattle.session_shutdown.proofs.stops.stop_components.Goals as goal
 
 pub stop_on-requires-clause-drives : goal.stop_on-requires-clause-drives
-stop_on-requires-clause-drives g c = subst (λ (w : Components). Drives w) (sym c.stop_all.ensures)
+stop_on-requires-clause-drives g c = subst (λ (w : Components). AreDriven w) (sym c.stop_all.ensures)
     (stop_drives (g.S.Supervise.world c.args.supervisor.now) c.requires.drives)
 
-pub stop_on-requires-clause-placed : goal.stop_on-requires-clause-placed
-stop_on-requires-clause-placed g c =
-    let q = c.requires.placed in
+pub stop_on-requires-clause-from_state : goal.stop_on-requires-clause-from_state
+stop_on-requires-clause-from_state g c =
+    let q = c.requires.from_state in
     let told = Listed g.R.Runner.list g.R.Runner.told g.R.Runner.asked c.args.runner.now in
     let living = g.R.Runner.living c.args.runner.now in (
       leaves q.0 StopsAll,

@@ -17,9 +17,9 @@ turns-init g c = record {
 pub turn-requires-clause-drives : goal.turn-requires-clause-drives
 turn-requires-clause-drives g c = c.turns.invariant.drives
 
-pub turn-requires-clause-placed : goal.turn-requires-clause-placed
-turn-requires-clause-placed g c =
-    let q = c.requires.placed in
+pub turn-requires-clause-from_state : goal.turn-requires-clause-from_state
+turn-requires-clause-from_state g c =
+    let q = c.requires.from_state in
     let w = c.turns.invariant.trace q.0 q.1 q.2 in
     (state_after q.0 w.0, q.1, w.2)
 

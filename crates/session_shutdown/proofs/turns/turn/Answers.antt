@@ -12,7 +12,7 @@ use Rattle.session_shutdown.proofs.Turning.{apart, has_stopped, sits}
 use Rattle.session_shutdown.proofs.turns.turn.Goals as goal
 
 pub pass-now-requires : goal.pass-now-requires
-pass-now-requires g c = let q = c.requires.placed in record { placed = (q.0, q.1, start_of q.2) }
+pass-now-requires g c = let q = c.requires.from_state in record { from_state = (q.0, q.1, start_of q.2) }
 
 pub take_acts-requires-clause-now : goal.take_acts-requires-clause-now
 take_acts-requires-clause-now g c = c.pass-now.ensures.now
@@ -22,9 +22,9 @@ take_acts-requires-clause-drives g c =
     (pass_not_above (g.S.Supervise.world c.args.supervisor.now) (g.S.Supervise.world c.pass-now.new.supervisor) c.pass-now.result c.requires.drives
     c.pass-now.ensures.passed).on.drives
 
-pub take_acts-requires-clause-placed : goal.take_acts-requires-clause-placed
-take_acts-requires-clause-placed g c =
-    let q = c.requires.placed in
+pub take_acts-requires-clause-from_state : goal.take_acts-requires-clause-from_state
+take_acts-requires-clause-from_state g c =
+    let q = c.requires.from_state in
     let w = turn_left c.leaving_laws.ensures q.0 q.2.on q.2.keeps (c.pass-now.ensures.trace q.0 q.1 (start_of q.2)) in
     (state_after q.0 w.0, w.2)
 
@@ -52,9 +52,9 @@ returns-then-stopped-clause-falls g c = λ more. absurd (apart more)
 pub wait_once-requires-clause-now : goal.wait_once-requires-clause-now
 wait_once-requires-clause-now g c = (c.take_acts.ensures.now, c.pass-now.ensures.now.1)
 
-pub wait_once-requires-clause-placed : goal.wait_once-requires-clause-placed
-wait_once-requires-clause-placed g c =
-    let q = c.requires.placed in
+pub wait_once-requires-clause-from_state : goal.wait_once-requires-clause-from_state
+wait_once-requires-clause-from_state g c =
+    let q = c.requires.from_state in
     let w = turn_left c.leaving_laws.ensures q.0 q.2.on q.2.keeps (c.pass-now.ensures.trace q.0 q.1 (start_of q.2)) in
     let t = c.take_acts.ensures.trace (state_after q.0 w.0) w.2 in
     let new = Listed g.R.Runner.list g.R.Runner.told g.R.Runner.asked c.take_acts.new.runner in
@@ -66,7 +66,7 @@ wait_once-requires-clause-placed g c =
 
 pub wait_once-requires-clause-drives : goal.wait_once-requires-clause-drives
 wait_once-requires-clause-drives g c =
-    let q = c.requires.placed in
+    let q = c.requires.from_state in
     let w = turn_left c.leaving_laws.ensures q.0 q.2.on q.2.keeps (c.pass-now.ensures.trace q.0 q.1 (start_of q.2)) in
     let t = c.take_acts.ensures.trace (state_after q.0 w.0) w.2 in
     let new = Listed g.R.Runner.list g.R.Runner.told g.R.Runner.asked c.take_acts.new.runner in (
@@ -77,7 +77,7 @@ wait_once-requires-clause-drives g c =
 
 pub wait_once-requires-clause-time : goal.wait_once-requires-clause-time
 wait_once-requires-clause-time g c =
-    let q = c.requires.placed in
+    let q = c.requires.from_state in
     let w = turn_left c.leaving_laws.ensures q.0 q.2.on q.2.keeps (c.pass-now.ensures.trace q.0 q.1 (start_of q.2)) in
     let t = c.take_acts.ensures.trace (state_after q.0 w.0) w.2 in
     let new = Listed g.R.Runner.list g.R.Runner.told g.R.Runner.asked c.take_acts.new.runner in

@@ -7,12 +7,12 @@ use Rattle.session_shutdown.proofs.waits.wait_once.Goals as goal
 
 pub longest_wait-limit-requires : goal.longest_wait-limit-requires
 longest_wait-limit-requires g c =
-    let q = c.requires.placed in
+    let q = c.requires.from_state in
     ap (λ (w : Components). w.moment) q.1.runs.world_is ∙ sym q.1.runs.within.moment ∙ c.requires.now.0
 
-pub wait-requires-clause-placed : goal.wait-requires-clause-placed
-wait-requires-clause-placed g c =
-    let q = c.requires.placed in
+pub wait-requires-clause-from_state : goal.wait-requires-clause-from_state
+wait-requires-clause-from_state g c =
+    let q = c.requires.from_state in
     let told = Listed g.R.Runner.list g.R.Runner.told g.R.Runner.asked c.args.runner.now in (
       q.0,
       ready q.0 (g.S.Supervise.world c.args.supervisor.now) told (g.R.Runner.living c.args.runner.now) c.longest_wait-limit.result c.args.now q.1
@@ -33,7 +33,7 @@ returns-clause-not_above g c = waited_not_above c.args.now c.longest_wait-limit.
 
 pub returns-clause-goes_on : goal.returns-clause-goes_on
 returns-clause-goes_on g c =
-    let q = c.requires.placed in
+    let q = c.requires.from_state in
     let past = g.met.R.Runner.past c.args.runner.now in
     let told = c.requires.now.0 in
     let moment = ap (λ (w : Components). w.moment) q.1.runs.world_is ∙ sym q.1.runs.within.moment ∙ told in

@@ -7,15 +7,15 @@ use Rattle.nuc_base.specs.declared.kinds.Outcome.TheVariants as outcomes
 use Rattle.deploy_state.specs.States.{activating_device, idle_device}
 use Rattle.session_boots.specs.Same.{IsSameDeployment}
 use Rattle.session_boots.proofs.Joins.{went_on}
-use Rattle.session_boots.proofs.Told.{all_told, left_joined, lines_at_joined}
+use Rattle.session_boots.proofs.Told.{all_printed, left_joined, lines_at_joined}
 use Rattle.session_startup.specs.Coming.{coming_device}
 use Rattle.session_startup.specs.declared.turns.Turned.TheVariants as turned
 use Rattle.session_startup.proofs.Parting.{broken_of, closed_on, held_plan, left_plan}
 use Rattle.session_startup.proofs.Turning.{quits_on}
 use Rattle.session_startup.proofs.activating.activate.Goals as goal
 
-pub come_up-requires-clause-placed : goal.come_up-requires-clause-placed
-come_up-requires-clause-placed g c = c.requires.placed
+pub come_up-requires-clause-from_state : goal.come_up-requires-clause-from_state
+come_up-requires-clause-from_state g c = c.requires.from_state
 
 pub into_plan-state-requires : goal.into_plan-state-requires
 into_plan-state-requires g c = c.in-Ok.ensures.same
@@ -42,9 +42,9 @@ pub close_plan-requires-clause-held : goal.close_plan-requires-clause-held
 close_plan-requires-clause-held g c = held_plan g.D.Disk.is_modelled g.D.Disk.may_leave g.J.Journal.stands g.J.Journal.end c.in-Ok.coming
     c.into_plan-state.result c.come_up.new.disk c.into_plan-state.ensures c.in-Ok.ensures.held
 
-pub close_plan-requires-clause-placed : goal.close_plan-requires-clause-placed
-close_plan-requires-clause-placed g c =
-    let q = c.requires.placed in
+pub close_plan-requires-clause-from_state : goal.close_plan-requires-clause-from_state
+close_plan-requires-clause-from_state g c =
+    let q = c.requires.from_state in
     let t = c.in-Ok.ensures.trace q.0 q.1 in
     let told = Listed g.R.Runner.list g.R.Runner.told g.R.Runner.asked c.come_up.new.runner in
     let living = g.R.Runner.living c.come_up.new.runner in
@@ -63,7 +63,7 @@ returns-in-Ok-close_plan-clause-trace g c = λ p comes.
       u.0 ++ t.0,
       went_on g.J.Journal.entries g.J.Journal.files g.met.D.Disk.laws c.args.disk.now c.come_up.new.disk c.close_plan.new.disk
           (g.R.Runner.list c.args.runner.now) (g.R.Runner.list c.come_up.new.runner) (g.R.Runner.list c.come_up.new.runner) p t.0 u.0 t.1 u.1,
-      all_told (g.K.Sink.held c.args.sink.now) (g.K.Sink.held c.come_up.new.sink) (g.K.Sink.held c.close_plan.new.sink) p t.0 u.0 t.1.run t.2 u.2,
+      all_printed (g.K.Sink.held c.args.sink.now) (g.K.Sink.held c.come_up.new.sink) (g.K.Sink.held c.close_plan.new.sink) p t.0 u.0 t.1.run t.2 u.2,
       closed_on outcomes.Successful current p t.0 u.0 (idle_device c.in-Ok-close_plan.idle) (g.S.Supervise.world c.close_plan.new.supervisor) told living u.3,
       tt,
     )

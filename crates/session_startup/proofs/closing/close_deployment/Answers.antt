@@ -9,9 +9,9 @@ use Rattle.deploy_state.proofs.Steps.{in_hand_stands}
 use Rattle.deploy_state.specs.States.{idle_device}
 use Rattle.components.specs.Components.{Components, owner}
 use Rattle.session_boots.specs.Lines.{id_of}
-use Rattle.session_boots.proofs.Told.{last_untold, stops_last}
+use Rattle.session_boots.proofs.Told.{last_unprinted, stops_last}
 use Rattle.law_supervisor.proofs.Steadied.{owner_steadied}
-use Rattle.law_termination.specs.Drives.{Drives}
+use Rattle.law_termination.specs.Drives.{AreDriven}
 use Rattle.law_termination.proofs.Stands.{steady_on}
 use Rattle.session_startup.proofs.Closed.{close_doubt, close_went, last_closed, line_closed, pends_still}
 use Rattle.session_startup.proofs.closing.close_deployment.Goals as goal
@@ -57,7 +57,7 @@ returns-in-Err-clause-trace g c = λ p list from.
     let o = g.C.Close.outcome c.args.state in (
       close_went g.J.Journal.entries g.J.Journal.files g.met.D.Disk.laws c.args.disk.now c.close.new.disk list p d o from c.requires.may
           c.close.ensures.moments,
-      last_untold (g.K.Sink.held c.args.sink.now) p.device (stored.Closed o),
+      last_unprinted (g.K.Sink.held c.args.sink.now) p.device (stored.Closed o),
       close_doubt g.J.Journal.entries g.J.Journal.files g.met.D.Disk.laws c.args.disk.now c.close.new.disk p d o from.device_is c.requires.may
           c.close.ensures.moments,
     )
@@ -71,9 +71,9 @@ returns-in-Err-tell_close-clause-owners g c n = ap (λ (w : Components). owner n
     ∙ owner_steadied n (g.S.Supervise.world c.args.supervisor.now)
 
 pub returns-in-Ok-tell_close-clause-drives : goal.returns-in-Ok-tell_close-clause-drives
-returns-in-Ok-tell_close-clause-drives g c = subst (λ (w : Components). Drives w) (sym c.steady.ensures)
+returns-in-Ok-tell_close-clause-drives g c = subst (λ (w : Components). AreDriven w) (sym c.steady.ensures)
     (steady_on (g.S.Supervise.world c.args.supervisor.now) c.requires.drives).drives
 
 pub returns-in-Err-tell_close-clause-drives : goal.returns-in-Err-tell_close-clause-drives
-returns-in-Err-tell_close-clause-drives g c = subst (λ (w : Components). Drives w) (sym c.steady.ensures)
+returns-in-Err-tell_close-clause-drives g c = subst (λ (w : Components). AreDriven w) (sym c.steady.ensures)
     (steady_on (g.S.Supervise.world c.args.supervisor.now) c.requires.drives).drives

@@ -7,7 +7,7 @@ use Rattle.session_startup.proofs.closing.close_plan.Goals as goal
 
 pub close_deployment-requires-clause-may : goal.close_deployment-requires-clause-may
 close_deployment-requires-clause-may g c =
-    let q = c.requires.placed in
+    let q = c.requires.from_state in
     completes q.0 (activating_device c.args.state) (g.S.Supervise.world c.args.supervisor.now) q.1 q.2 c.requires.held.1 q.3
 
 pub returns-clause-trace : goal.returns-clause-trace

@@ -4,7 +4,7 @@ use Rattle.device.specs.declared.staged.Stage.TheVariants as stages
 use Rattle.deploy_state.proofs.Steps.{may_roll}
 use Rattle.deploy_state.specs.States.{idle_device, rolling_device}
 use Rattle.histories.specs.TraceEvents.{records_of}
-use Rattle.session_boots.specs.Ends.{Left, Lines}
+use Rattle.session_boots.specs.Ends.{ResultLeft, HasLines}
 use Rattle.session_boots.specs.Traces.{IsTrace}
 use Rattle.session_startup.specs.Closing.{MayCloseNow, just_closed}
 use Rattle.session_startup.proofs.Closed.{at_fault, close_follows, closed_quits, ends_set, kept_owners, left_closed, pends_in, rolls, set_outcome}
@@ -25,8 +25,8 @@ returns-clause-trace g c = λ p told living broken r up.
     let t = subst (λ (x : Outcome).
     IsTrace g.J.Journal.entries g.J.Journal.files g.D.Disk.may_leave g.D.Disk.moment g.D.Disk.left_since c.args.disk.now disk told.list told.list p
     (just_closed x)
-    × Lines (g.K.Sink.held c.args.sink.now) (g.K.Sink.held c.close_deployment.new.sink) p.device (records_of (just_closed x)) c.close_deployment.result
-    × Left g.J.Journal.entries g.D.Disk.may_leave disk p (just_closed x) (λ s q. idle_device s ≡ q.device) c.close_deployment.result) same
+    × HasLines (g.K.Sink.held c.args.sink.now) (g.K.Sink.held c.close_deployment.new.sink) p.device (records_of (just_closed x)) c.close_deployment.result
+    × ResultLeft g.J.Journal.entries g.D.Disk.may_leave disk p (just_closed x) (λ s q. idle_device s ≡ q.device) c.close_deployment.result) same
     (c.close_deployment.ensures.trace p told.list (subst (λ (x : Outcome). MayCloseNow p d x) (sym same) follows)) in (
       just_closed o,
       t.0,

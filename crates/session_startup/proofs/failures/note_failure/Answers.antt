@@ -9,7 +9,7 @@ use Rattle.histories.specs.TraceEvents.{Recorded}
 use Rattle.histories.specs.States.{state_after}
 use Rattle.session_boots.specs.Same.{IsSameDeployment}
 use Rattle.session_boots.proofs.Same.{same_counted}
-use Rattle.session_boots.proofs.Told.{last_untold, stops_last}
+use Rattle.session_boots.proofs.Told.{last_unprinted, stops_last}
 use Rattle.session_startup.specs.Coming.{coming_device}
 use Rattle.session_startup.proofs.Stages.{coming_stands, is_pending}
 use Rattle.session_startup.proofs.Failed.{can_tell, within_told}
@@ -19,12 +19,12 @@ use Rattle.session_startup.proofs.failures.note_failure.Goals as goal
 
 pub name-name-requires : goal.name-name-requires
 name-name-requires g c =
-    let q = c.requires.placed in
+    let q = c.requires.from_state in
     within_told q.0.world (g.S.Supervise.world c.args.supervisor.now) c.args.who c.args.step c.args.exit q.3.breaks q.3.owes q.3.world_is
 
 pub failed-requires-clause-may : goal.failed-requires-clause-may
 failed-requires-clause-may g c =
-    let q = c.requires.placed in
+    let q = c.requires.from_state in
     let can = can_tell q.0.device q.0.world (g.S.Supervise.world c.args.supervisor.now) c.args.who c.args.step c.args.exit q.3.breaks c.name-name.result.now
     q.3.within.keeps q.3.owes q.3.world_is c.name-name.ensures in
     subst (λ (d : Device). Allowed d (stored.StepFailed c.name-name.result.now c.args.step c.args.exit)) q.4 can.allowed
@@ -92,7 +92,7 @@ returns-in-Err-clause-trace g c = λ p told living h device.
       Recorded r ∷ [],
       fail_went g.J.Journal.entries g.J.Journal.files g.met.D.Disk.laws c.args.disk.now c.failed.new.disk told.list p d c.args.who c.args.step c.args.exit n
           world told living device h can c.failed.ensures.moments,
-      last_untold (g.K.Sink.held c.args.sink.now) p.device r,
+      last_unprinted (g.K.Sink.held c.args.sink.now) p.device r,
       fail_doubt g.J.Journal.entries g.J.Journal.files g.met.D.Disk.laws c.args.disk.now c.failed.new.disk p d c.args.who c.args.step c.args.exit n device can
           c.failed.ensures.moments,
       quits_of (state_after p (Recorded r ∷ [])) world told living (fail_runs c.driving_laws.ensures p c.args.who c.args.step c.args.exit n world told living

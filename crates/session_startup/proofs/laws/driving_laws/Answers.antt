@@ -15,6 +15,6 @@ returns c = record {
   keeps_ended = c.ends_keep.ensures.keeps;
   owner_ended = c.ends_keep.ensures.owners;
   keeps_told = c.tellings_keep.ensures.keeps;
-  owner_told = c.tellings_keep.ensures.owners;
+  owner_heard = c.tellings_keep.ensures.owners;
   keeps_later = c.time_keeps.ensures.keeps;
 }

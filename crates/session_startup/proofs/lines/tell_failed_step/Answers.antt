@@ -1,7 +1,7 @@
 use Rattle.edges.proofs.Sent.{handed_on}
 use Rattle.session_boots.specs.Lines.{failed_line}
-use Rattle.edges.proofs.Sent.{front_longer, written_on}
-use Rattle.session_startup.proofs.Written.{end_text, failed_front, failed_joined}
+use Rattle.edges.proofs.Sent.{prefix_longer, written_on}
+use Rattle.session_startup.proofs.Written.{end_text, failed_prefix, failed_joined}
 use Rattle.session_startup.proofs.lines.tell_failed_step.Goals as goal
 
 pub returns-in_err-write_pieces-clause-line : goal.returns-in_err-write_pieces-clause-line
@@ -12,7 +12,7 @@ returns-in_err-write_pieces-clause-line g c =
     let exit = c.args.exit in
     handed_on (g.K.Sink.held c.args.sink.now) (g.K.Sink.held c.write_pieces.new.sink) (failed_line id name step exit) c.from_residual.result
     c.in_err-write_pieces.field-0.0 c.from_residual.ensures.1
-    (front_longer (g.K.Sink.held c.args.sink.now) (g.K.Sink.held c.write_pieces.new.sink) (failed_line id name step exit) (failed_front id name)
+    (prefix_longer (g.K.Sink.held c.args.sink.now) (g.K.Sink.held c.write_pieces.new.sink) (failed_line id name step exit) (failed_prefix id name)
     (end_text step exit) (failed_joined id name step exit)
     (rw (← c.as_str.ensures.value, ← c.as_str-2.ensures.value) c.in_err-write_pieces.ensures.bytes))
 
@@ -23,5 +23,5 @@ returns-clause-line g c =
     let step = c.args.step in
     let exit = c.args.exit in
     written_on (g.K.Sink.held c.args.sink.now) (g.K.Sink.held c.write_pieces.new.sink) (g.K.Sink.held c.tell_end.new.sink) (failed_line id name step exit)
-    (failed_front id name) (end_text step exit) c.tell_end.result (failed_joined id name step exit)
+    (failed_prefix id name) (end_text step exit) c.tell_end.result (failed_joined id name step exit)
     (rw (← c.as_str.ensures.value, ← c.as_str-2.ensures.value) c.in_ok-write_pieces.ensures.bytes) c.tell_end.ensures.line

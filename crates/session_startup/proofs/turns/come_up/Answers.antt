@@ -10,7 +10,7 @@ use Rattle.session_boots.proofs.Acting.{acts_none}
 use Rattle.session_boots.proofs.Joins.{acted, went_on}
 use Rattle.session_boots.proofs.Restarts.{not_err}
 use Rattle.session_boots.proofs.Same.{same_refl, same_trans}
-use Rattle.session_boots.proofs.Told.{all_told, left_joined, lines_at_joined}
+use Rattle.session_boots.proofs.Told.{all_printed, left_joined, lines_at_joined}
 use Rattle.session_startup.specs.Coming.{coming_device}
 use Rattle.session_startup.specs.Turns.{TurnLeft}
 use Rattle.session_startup.specs.declared.turns.Turned.{Turned}
@@ -42,9 +42,9 @@ turns-init g c = record {
 pub turn-requires-clause-held : goal.turn-requires-clause-held
 turn-requires-clause-held g c = c.turns.invariant.held
 
-pub turn-requires-clause-placed : goal.turn-requires-clause-placed
-turn-requires-clause-placed g c =
-    let q = c.requires.placed in
+pub turn-requires-clause-from_state : goal.turn-requires-clause-from_state
+turn-requires-clause-from_state g c =
+    let q = c.requires.from_state in
     let w = c.turns.invariant.trace q.0 q.1 in
     (state_after q.0 w.0, w.3)
 
@@ -68,7 +68,7 @@ turns-preserved g c = record {
         t.0 ++ w.0,
         went_on g.J.Journal.entries g.J.Journal.files g.met.D.Disk.laws c.args.disk.now c.turns.disk c.turn.new.disk
             (g.R.Runner.list c.args.runner.now) (g.R.Runner.list c.turns.runner) (g.R.Runner.list c.turn.new.runner) p w.0 t.0 w.1 t.1,
-        all_told (g.K.Sink.held c.args.sink.now) (g.K.Sink.held c.turns.sink) (g.K.Sink.held c.turn.new.sink) p w.0 t.0 w.1.run w.2 t.2,
+        all_printed (g.K.Sink.held c.args.sink.now) (g.K.Sink.held c.turns.sink) (g.K.Sink.held c.turn.new.sink) p w.0 t.0 w.1.run w.2 t.2,
         subst (λ (x : SessionState). TurnLeft None x e world new living) (sym (left-append p t.0 w.0))
             (subst (λ (k : Option Turned). TurnLeft k (state_after (state_after p w.0) t.0) e world new living) c.in-None.is t.3),
       );
@@ -85,7 +85,7 @@ returns-in-Some-clause-trace g c = λ p comes.
       t.0 ++ w.0,
       went_on g.J.Journal.entries g.J.Journal.files g.met.D.Disk.laws c.args.disk.now c.turns.disk c.turn.new.disk
           (g.R.Runner.list c.args.runner.now) (g.R.Runner.list c.turns.runner) (g.R.Runner.list c.turn.new.runner) p w.0 t.0 w.1 t.1,
-      all_told (g.K.Sink.held c.args.sink.now) (g.K.Sink.held c.turns.sink) (g.K.Sink.held c.turn.new.sink) p w.0 t.0 w.1.run w.2 t.2,
+      all_printed (g.K.Sink.held c.args.sink.now) (g.K.Sink.held c.turns.sink) (g.K.Sink.held c.turn.new.sink) p w.0 t.0 w.1.run w.2 t.2,
       subst (λ (x : SessionState). TurnLeft (Some c.in-Some.turned) x e world new living) (sym (left-append p t.0 w.0))
           (subst (λ (k : Option Turned). TurnLeft k (state_after (state_after p w.0) t.0) e world new living) c.in-Some.is t.3),
       tt,

@@ -8,7 +8,7 @@ use Rattle.session_boots.specs.Same.{IsSameDeployment}
 use Rattle.session_boots.specs.Traces.{IsTrace}
 use Rattle.components.specs.Events.{later}
 use Rattle.law_termination.specs.Rank.{measure}
-use Rattle.law_termination.specs.Drives.{Drives}
+use Rattle.law_termination.specs.Drives.{AreDriven}
 use Rattle.session_startup.specs.Coming.{OwnsComing, coming_device, is_plan}
 use Rattle.session_startup.specs.Runs.{IsAtTurnStart}
 use Rattle.session_startup.proofs.turns.come_up.Given as goal
@@ -21,7 +21,7 @@ invariant-turns g l = record {
   others : IsTrue g.D.Disk.is_modelled → (name : List ℕ) → ¬ (g.J.Journal.files name) → g.D.Disk.seen l.disk name ≡ g.D.Disk.seen l.fn.disk name;
   quiet_disk : g.D.Disk.faults l.disk ≡ g.D.Disk.faults l.fn.disk;
   quiet_sink : g.K.Sink.faults l.sink ≡ g.K.Sink.faults l.fn.sink;
-  drives : Drives (g.S.Supervise.world l.supervisor);
+  drives : AreDriven (g.S.Supervise.world l.supervisor);
   trace : (p : SessionState) → IsAtTurnStart p (coming_device l.fn.state) (g.S.Supervise.world l.fn.supervisor)
       (Listed g.R.Runner.list g.R.Runner.told g.R.Runner.asked l.fn.runner) (g.R.Runner.living l.fn.runner) →
       (h : List TraceEvent) × IsTrace g.J.Journal.entries g.J.Journal.files g.D.Disk.may_leave g.D.Disk.moment g.D.Disk.left_since l.fn.disk l.disk

@@ -6,7 +6,7 @@ use Rattle.histories.specs.States.{SessionState, state_after}
 use Rattle.histories.proofs.Joined.{left-append}
 use Rattle.session_boots.proofs.Joins.{acted, went_on}
 use Rattle.session_boots.proofs.Same.{same_refl}
-use Rattle.session_boots.proofs.Told.{all_told, left_joined, lines_at_joined}
+use Rattle.session_boots.proofs.Told.{all_printed, left_joined, lines_at_joined}
 use Rattle.session_startup.specs.Coming.{coming_device}
 use Rattle.session_startup.specs.Did.{ActLeft}
 use Rattle.session_acts.proofs.Entering.{never}
@@ -19,12 +19,12 @@ use Rattle.session_startup.proofs.Stages.{coming_stands}
 use Rattle.session_startup.proofs.Turning.{no_lines, quits_on}
 use Rattle.session_startup.proofs.turns.take_act.Goals as goal
 
-pub act-requires-clause-placed : goal.act-requires-clause-placed
-act-requires-clause-placed g c = let q = c.requires.placed in (q.0, turn_of q.1)
+pub act-requires-clause-from_state : goal.act-requires-clause-from_state
+act-requires-clause-from_state g c = let q = c.requires.from_state in (q.0, turn_of q.1)
 
-pub note_failure-requires-clause-placed : goal.note_failure-requires-clause-placed
-note_failure-requires-clause-placed g c =
-    let q = c.requires.placed in
+pub note_failure-requires-clause-from_state : goal.note_failure-requires-clause-from_state
+note_failure-requires-clause-from_state g c =
+    let q = c.requires.from_state in
     let w = did_left c.driving_laws.ensures q.0 q.1.within.on q.1.within.keeps (did.Failed c.in-Failed.who c.in-Failed.step c.in-Failed.exit) _ _ _
     (c.in-Failed.ensures.trace q.0 (turn_of q.1)) in
     (state_after q.0 w.0, Listed g.R.Runner.list g.R.Runner.told g.R.Runner.asked c.act.new.runner, g.R.Runner.living c.act.new.runner, w.2, w.1.device ∙ q.2)
@@ -75,7 +75,7 @@ returns-in-Ok-clause-trace g c = λ p runs device.
       t.0 ++ w.0,
       went_on g.J.Journal.entries g.J.Journal.files g.met.D.Disk.laws c.args.disk.now c.args.disk.now c.note_failure.new.disk
           (g.R.Runner.list c.args.runner.now) (g.R.Runner.list c.act.new.runner) (g.R.Runner.list c.act.new.runner) p w.0 t.0 one t.1,
-      all_told (g.K.Sink.held c.args.sink.now) (g.K.Sink.held c.args.sink.now) (g.K.Sink.held c.note_failure.new.sink) p w.0 t.0 one.run
+      all_printed (g.K.Sink.held c.args.sink.now) (g.K.Sink.held c.args.sink.now) (g.K.Sink.held c.note_failure.new.sink) p w.0 t.0 one.run
           (no_lines (g.K.Sink.held c.args.sink.now) p.device w.0 w.1.none) t.2,
       subst (λ (x : SessionState). ActLeft x (coming_device c.in-Ok.next) false (g.S.Supervise.world c.act.new.supervisor) told living)
           (sym (left-append p t.0 w.0))
@@ -108,7 +108,7 @@ returns-in-Nothing-clause-falls g c = λ some. absurd (apart some)
 
 pub returns-in-Something-clause-falls : goal.returns-in-Something-clause-falls
 returns-in-Something-clause-falls g c = λ some.
-    let q = c.requires.placed in
+    let q = c.requires.from_state in
     let v = g.S.Supervise.world c.args.supervisor.now in
     let told = Listed g.R.Runner.list g.R.Runner.told g.R.Runner.asked c.args.runner.now in
     let f = falling_at q.0 v told (g.R.Runner.living c.args.runner.now) q.1 in
@@ -117,7 +117,7 @@ returns-in-Something-clause-falls g c = λ some.
 
 pub returns-in-Ok-clause-falls : goal.returns-in-Ok-clause-falls
 returns-in-Ok-clause-falls g c = λ some.
-    let q = c.requires.placed in
+    let q = c.requires.from_state in
     let v = g.S.Supervise.world c.args.supervisor.now in
     let told = Listed g.R.Runner.list g.R.Runner.told g.R.Runner.asked c.args.runner.now in
     let f = falling_at q.0 v told (g.R.Runner.living c.args.runner.now) q.1 in
@@ -126,7 +126,7 @@ returns-in-Ok-clause-falls g c = λ some.
 
 pub returns-in-Nothing-clause-not_above : goal.returns-in-Nothing-clause-not_above
 returns-in-Nothing-clause-not_above g c =
-    let q = c.requires.placed in
+    let q = c.requires.from_state in
     let v = g.S.Supervise.world c.args.supervisor.now in
     let told = Listed g.R.Runner.list g.R.Runner.told g.R.Runner.asked c.args.runner.now in
     let f = falling_at q.0 v told (g.R.Runner.living c.args.runner.now) q.1 in
@@ -134,7 +134,7 @@ returns-in-Nothing-clause-not_above g c =
 
 pub returns-in-Something-clause-not_above : goal.returns-in-Something-clause-not_above
 returns-in-Something-clause-not_above g c =
-    let q = c.requires.placed in
+    let q = c.requires.from_state in
     let v = g.S.Supervise.world c.args.supervisor.now in
     let told = Listed g.R.Runner.list g.R.Runner.told g.R.Runner.asked c.args.runner.now in
     let f = falling_at q.0 v told (g.R.Runner.living c.args.runner.now) q.1 in
@@ -142,7 +142,7 @@ returns-in-Something-clause-not_above g c =
 
 pub returns-in-Ok-clause-not_above : goal.returns-in-Ok-clause-not_above
 returns-in-Ok-clause-not_above g c =
-    let q = c.requires.placed in
+    let q = c.requires.from_state in
     let v = g.S.Supervise.world c.args.supervisor.now in
     let told = Listed g.R.Runner.list g.R.Runner.told g.R.Runner.asked c.args.runner.now in
     let f = falling_at q.0 v told (g.R.Runner.living c.args.runner.now) q.1 in
@@ -150,7 +150,7 @@ returns-in-Ok-clause-not_above g c =
 
 pub returns-in-Err-clause-not_above : goal.returns-in-Err-clause-not_above
 returns-in-Err-clause-not_above g c =
-    let q = c.requires.placed in
+    let q = c.requires.from_state in
     let v = g.S.Supervise.world c.args.supervisor.now in
     let told = Listed g.R.Runner.list g.R.Runner.told g.R.Runner.asked c.args.runner.now in
     let f = falling_at q.0 v told (g.R.Runner.living c.args.runner.now) q.1 in

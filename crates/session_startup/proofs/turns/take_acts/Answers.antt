@@ -10,7 +10,7 @@ use Rattle.session_boots.proofs.Acting.{acts_none}
 use Rattle.session_boots.proofs.Joins.{acted, went_on}
 use Rattle.session_boots.proofs.Restarts.{not_err}
 use Rattle.session_boots.proofs.Same.{same_refl, same_trans}
-use Rattle.session_boots.proofs.Told.{all_told, left_joined, lines_at_joined}
+use Rattle.session_boots.proofs.Told.{all_printed, left_joined, lines_at_joined}
 use Rattle.law_termination.proofs.Steps.{not_above_on, self_not_above}
 use Rattle.session_startup.specs.Coming.{coming_device}
 use Rattle.session_startup.specs.Did.{ActLeft}
@@ -47,9 +47,9 @@ take_act-requires-clause-now g c = (c.acts.invariant.now, c.requires.now.1)
 pub take_act-requires-clause-held : goal.take_act-requires-clause-held
 take_act-requires-clause-held g c = c.acts.invariant.held
 
-pub take_act-requires-clause-placed : goal.take_act-requires-clause-placed
-take_act-requires-clause-placed g c =
-    let q = c.requires.placed in
+pub take_act-requires-clause-from_state : goal.take_act-requires-clause-from_state
+take_act-requires-clause-from_state g c =
+    let q = c.requires.from_state in
     let w = c.acts.invariant.trace q.0 q.1 q.2 in
     (state_after q.0 w.0, w.3.runs, w.3.device_is)
 
@@ -71,7 +71,7 @@ acts-preserved g c = record {
         t.0 ++ w.0,
         went_on g.J.Journal.entries g.J.Journal.files g.met.D.Disk.laws c.args.disk.now c.acts.disk c.take_act.new.disk
             (g.R.Runner.list c.args.runner.now) (g.R.Runner.list c.acts.runner) (g.R.Runner.list c.take_act.new.runner) p w.0 t.0 w.1 t.1,
-        all_told (g.K.Sink.held c.args.sink.now) (g.K.Sink.held c.acts.sink) (g.K.Sink.held c.take_act.new.sink) p w.0 t.0 w.1.run w.2 t.2,
+        all_printed (g.K.Sink.held c.args.sink.now) (g.K.Sink.held c.acts.sink) (g.K.Sink.held c.take_act.new.sink) p w.0 t.0 w.1.run w.2 t.2,
         subst (λ (x : SessionState). ActLeft x (coming_device c.in-Ok.next) false (g.S.Supervise.world c.take_act.new.supervisor)
             (Listed g.R.Runner.list g.R.Runner.told g.R.Runner.asked c.take_act.new.runner) (g.R.Runner.living c.take_act.new.runner))
             (sym (left-append p t.0 w.0))
@@ -86,7 +86,7 @@ returns-then-none-clause-trace g c = λ p runs device.
       t.0 ++ w.0,
       went_on g.J.Journal.entries g.J.Journal.files g.met.D.Disk.laws c.args.disk.now c.acts.disk c.take_act.new.disk
           (g.R.Runner.list c.args.runner.now) (g.R.Runner.list c.acts.runner) (g.R.Runner.list c.take_act.new.runner) p w.0 t.0 w.1 t.1,
-      all_told (g.K.Sink.held c.args.sink.now) (g.K.Sink.held c.acts.sink) (g.K.Sink.held c.take_act.new.sink) p w.0 t.0 w.1.run w.2 t.2,
+      all_printed (g.K.Sink.held c.args.sink.now) (g.K.Sink.held c.acts.sink) (g.K.Sink.held c.take_act.new.sink) p w.0 t.0 w.1.run w.2 t.2,
       subst (λ (x : SessionState). ActLeft x (coming_device c.in-Ok.next) true (g.S.Supervise.world c.take_act.new.supervisor)
           (Listed g.R.Runner.list g.R.Runner.told g.R.Runner.asked c.take_act.new.runner) (g.R.Runner.living c.take_act.new.runner))
           (sym (left-append p t.0 w.0))

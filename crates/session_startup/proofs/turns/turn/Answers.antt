@@ -5,7 +5,7 @@ use Rattle.step_runner.specs.Entries.{Listed}
 use Rattle.histories.specs.States.{SessionState, state_after}
 use Rattle.histories.proofs.Joined.{left-append}
 use Rattle.session_boots.proofs.Joins.{acted, went_on}
-use Rattle.session_boots.proofs.Told.{all_told, left_joined, lines_at_joined}
+use Rattle.session_boots.proofs.Told.{all_printed, left_joined, lines_at_joined}
 use Rattle.law_termination.specs.Rank.{rank}
 use Rattle.law_termination.proofs.Steps.{measure_less, not_above_on, pass_not_above, turn_goes}
 use Rattle.session_startup.specs.Coming.{coming_device}
@@ -18,14 +18,14 @@ use Rattle.session_startup.proofs.Turning.{no_lines, quits_on, rests, settled_is
 use Rattle.session_startup.proofs.turns.turn.Goals as goal
 
 pub pass-now-requires : goal.pass-now-requires
-pass-now-requires g c = let q = c.requires.placed in record { placed = (q.0, coming_device c.args.state, start_of q.1) }
+pass-now-requires g c = let q = c.requires.from_state in record { from_state = (q.0, coming_device c.args.state, start_of q.1) }
 
 pub take_acts-requires-clause-now : goal.take_acts-requires-clause-now
 take_acts-requires-clause-now g c = c.pass-now.ensures.now
 
-pub take_acts-requires-clause-placed : goal.take_acts-requires-clause-placed
-take_acts-requires-clause-placed g c =
-    let q = c.requires.placed in
+pub take_acts-requires-clause-from_state : goal.take_acts-requires-clause-from_state
+take_acts-requires-clause-from_state g c =
+    let q = c.requires.from_state in
     let w = turn_left c.driving_laws.ensures q.0 q.1.on q.1.keeps (c.pass-now.ensures.trace q.0 (coming_device c.args.state) (start_of q.1)) in
     (state_after q.0 w.0, w.2, w.1.device ∙ q.1.stands.device_is)
 
@@ -67,7 +67,7 @@ returns-then-is_broken-clause-trace g c = λ p comes.
       t.0 ++ w.0,
       went_on g.J.Journal.entries g.J.Journal.files g.met.D.Disk.laws c.args.disk.now c.args.disk.now c.take_acts.new.disk
           (g.R.Runner.list c.args.runner.now) (g.R.Runner.list c.pass-now.new.runner) (g.R.Runner.list c.take_acts.new.runner) p w.0 t.0 one t.1,
-      all_told (g.K.Sink.held c.args.sink.now) (g.K.Sink.held c.args.sink.now) (g.K.Sink.held c.take_acts.new.sink) p w.0 t.0 one.run
+      all_printed (g.K.Sink.held c.args.sink.now) (g.K.Sink.held c.args.sink.now) (g.K.Sink.held c.take_acts.new.sink) p w.0 t.0 one.run
           (no_lines (g.K.Sink.held c.args.sink.now) p.device w.0 w.1.none) t.2,
       rests (state_after p (t.0 ++ w.0)) e world new living true c.is_broken.result true a refl c.is_broken.ensures c.if-is_broken.true,
       tt,
@@ -93,7 +93,7 @@ returns-then-settled-clause-trace g c = λ p comes.
       t.0 ++ w.0,
       went_on g.J.Journal.entries g.J.Journal.files g.met.D.Disk.laws c.args.disk.now c.args.disk.now c.take_acts.new.disk
           (g.R.Runner.list c.args.runner.now) (g.R.Runner.list c.pass-now.new.runner) (g.R.Runner.list c.take_acts.new.runner) p w.0 t.0 one t.1,
-      all_told (g.K.Sink.held c.args.sink.now) (g.K.Sink.held c.args.sink.now) (g.K.Sink.held c.take_acts.new.sink) p w.0 t.0 one.run
+      all_printed (g.K.Sink.held c.args.sink.now) (g.K.Sink.held c.args.sink.now) (g.K.Sink.held c.take_acts.new.sink) p w.0 t.0 one.run
           (no_lines (g.K.Sink.held c.args.sink.now) p.device w.0 w.1.none) t.2,
       (r, settled_is q e false world new living c.settled.result true r c.settled.ensures c.if-settled.true),
       tt,
@@ -102,9 +102,9 @@ returns-then-settled-clause-trace g c = λ p comes.
 pub wait_once-requires-clause-now : goal.wait_once-requires-clause-now
 wait_once-requires-clause-now g c = (c.take_acts.ensures.now, c.pass-now.ensures.now.1)
 
-pub wait_once-requires-clause-placed : goal.wait_once-requires-clause-placed
-wait_once-requires-clause-placed g c =
-    let q = c.requires.placed in
+pub wait_once-requires-clause-from_state : goal.wait_once-requires-clause-from_state
+wait_once-requires-clause-from_state g c =
+    let q = c.requires.from_state in
     let p = q.0 in
     let d = coming_device c.args.state in
     let e = coming_device c.in-Ok.next in
@@ -134,7 +134,7 @@ returns-else-settled-clause-trace g c = λ p comes.
     let living = g.R.Runner.living c.take_acts.new.runner in
     let both = went_on g.J.Journal.entries g.J.Journal.files g.met.D.Disk.laws c.args.disk.now c.args.disk.now c.take_acts.new.disk
     (g.R.Runner.list c.args.runner.now) (g.R.Runner.list c.pass-now.new.runner) (g.R.Runner.list c.take_acts.new.runner) p w.0 t.0 one t.1 in
-    let lines = all_told (g.K.Sink.held c.args.sink.now) (g.K.Sink.held c.args.sink.now) (g.K.Sink.held c.take_acts.new.sink) p w.0 t.0 one.run
+    let lines = all_printed (g.K.Sink.held c.args.sink.now) (g.K.Sink.held c.args.sink.now) (g.K.Sink.held c.take_acts.new.sink) p w.0 t.0 one.run
     (no_lines (g.K.Sink.held c.args.sink.now) p.device w.0 w.1.none) t.2 in
     let x = state_after p (t.0 ++ w.0) in
     let a = subst (λ (y : SessionState). ActLeft y e true world new living) (sym (left-append p t.0 w.0)) t.3 in
@@ -147,7 +147,7 @@ returns-else-settled-clause-trace g c = λ p comes.
       u.0 ++ (t.0 ++ w.0),
       went_on g.J.Journal.entries g.J.Journal.files g.met.D.Disk.laws c.args.disk.now c.take_acts.new.disk c.take_acts.new.disk
           (g.R.Runner.list c.args.runner.now) (g.R.Runner.list c.take_acts.new.runner) (g.R.Runner.list c.wait_once.new.runner) p (t.0 ++ w.0) u.0 both slept,
-      all_told (g.K.Sink.held c.args.sink.now) (g.K.Sink.held c.take_acts.new.sink) (g.K.Sink.held c.take_acts.new.sink) p (t.0 ++ w.0) u.0 both.run lines
+      all_printed (g.K.Sink.held c.args.sink.now) (g.K.Sink.held c.take_acts.new.sink) (g.K.Sink.held c.take_acts.new.sink) p (t.0 ++ w.0) u.0 both.run lines
           (no_lines (g.K.Sink.held c.take_acts.new.sink) x.device u.0 u.1.none),
       subst (λ (y : SessionState). IsAtTurnStart y e (g.S.Supervise.world c.wait_once.new.supervisor) last (g.R.Runner.living c.wait_once.new.runner))
           (sym (left-append p u.0 (t.0 ++ w.0))) u.2,
@@ -163,7 +163,7 @@ take_acts-requires-clause-drives g c =
 
 pub wait_once-requires-clause-drives : goal.wait_once-requires-clause-drives
 wait_once-requires-clause-drives g c =
-    let q = c.requires.placed in
+    let q = c.requires.from_state in
     let w = turn_left c.driving_laws.ensures q.0 q.1.on q.1.keeps (c.pass-now.ensures.trace q.0 (coming_device c.args.state) (start_of q.1)) in
     let t = c.in-Ok.ensures.trace (state_after q.0 w.0) w.2 (w.1.device ∙ q.1.stands.device_is) in
     let new = Listed g.R.Runner.list g.R.Runner.told g.R.Runner.asked c.take_acts.new.runner in (
@@ -174,7 +174,7 @@ wait_once-requires-clause-drives g c =
 
 pub wait_once-requires-clause-time : goal.wait_once-requires-clause-time
 wait_once-requires-clause-time g c =
-    let q = c.requires.placed in
+    let q = c.requires.from_state in
     let p = q.0 in
     let d = coming_device c.args.state in
     let e = coming_device c.in-Ok.next in

@@ -17,8 +17,8 @@ use Rattle.session_steady.proofs.acts.take_act.Goals as goal
 pub act-requires-clause-now : goal.act-requires-clause-now
 act-requires-clause-now g c = (c.requires.now.0, omega (arith, c.requires.now.1))
 
-pub act-requires-clause-placed : goal.act-requires-clause-placed
-act-requires-clause-placed g c = let q = c.requires.placed in (q.0, q.1)
+pub act-requires-clause-from_state : goal.act-requires-clause-from_state
+act-requires-clause-from_state g c = let q = c.requires.from_state in (q.0, q.1)
 
 pub returns-in-Nothing-clause-trace : goal.returns-in-Nothing-clause-trace
 returns-in-Nothing-clause-trace g c = λ p runs idle.
@@ -60,7 +60,7 @@ returns-in-Nothing-clause-calms g c = λ no. absurd (apart no)
 
 pub returns-in-Something-clause-calms : goal.returns-in-Something-clause-calms
 returns-in-Something-clause-calms g c = λ no.
-    let q = c.requires.placed in
+    let q = c.requires.from_state in
     let v = g.S.Supervise.world c.args.supervisor.now in
     let m : v.moment ≡ c.args.now = ap (λ (w : Components). w.moment) q.1.world_is ∙ sym q.1.within.moment ∙ c.requires.now.0 in
     taken_calms c.args.now v (g.S.Supervise.world c.act.new.supervisor) m c.requires.drives.0 c.requires.drives.1 c.requires.now.1 c.act.result
@@ -68,7 +68,7 @@ returns-in-Something-clause-calms g c = λ no.
 
 pub returns-in-Failed-clause-calms : goal.returns-in-Failed-clause-calms
 returns-in-Failed-clause-calms g c = λ no.
-    let q = c.requires.placed in
+    let q = c.requires.from_state in
     let v = g.S.Supervise.world c.args.supervisor.now in
     let m : v.moment ≡ c.args.now = ap (λ (w : Components). w.moment) q.1.world_is ∙ sym q.1.within.moment ∙ c.requires.now.0 in
     taken_calms c.args.now v (g.S.Supervise.world c.act.new.supervisor) m c.requires.drives.0 c.requires.drives.1 c.requires.now.1 c.act.result
@@ -76,7 +76,7 @@ returns-in-Failed-clause-calms g c = λ no.
 
 pub returns-in-Nothing-clause-no_wilder : goal.returns-in-Nothing-clause-no_wilder
 returns-in-Nothing-clause-no_wilder g c =
-    let q = c.requires.placed in
+    let q = c.requires.from_state in
     let v = g.S.Supervise.world c.args.supervisor.now in
     let m : v.moment ≡ c.args.now = ap (λ (w : Components). w.moment) q.1.world_is ∙ sym q.1.within.moment ∙ c.requires.now.0 in
     taken_no_wilder c.args.now v (g.S.Supervise.world c.act.new.supervisor) m c.requires.drives.0 c.requires.drives.1 c.requires.now.1 c.act.result
@@ -84,7 +84,7 @@ returns-in-Nothing-clause-no_wilder g c =
 
 pub returns-in-Something-clause-no_wilder : goal.returns-in-Something-clause-no_wilder
 returns-in-Something-clause-no_wilder g c =
-    let q = c.requires.placed in
+    let q = c.requires.from_state in
     let v = g.S.Supervise.world c.args.supervisor.now in
     let m : v.moment ≡ c.args.now = ap (λ (w : Components). w.moment) q.1.world_is ∙ sym q.1.within.moment ∙ c.requires.now.0 in
     taken_no_wilder c.args.now v (g.S.Supervise.world c.act.new.supervisor) m c.requires.drives.0 c.requires.drives.1 c.requires.now.1 c.act.result
@@ -92,7 +92,7 @@ returns-in-Something-clause-no_wilder g c =
 
 pub returns-in-Failed-clause-no_wilder : goal.returns-in-Failed-clause-no_wilder
 returns-in-Failed-clause-no_wilder g c =
-    let q = c.requires.placed in
+    let q = c.requires.from_state in
     let v = g.S.Supervise.world c.args.supervisor.now in
     let m : v.moment ≡ c.args.now = ap (λ (w : Components). w.moment) q.1.world_is ∙ sym q.1.within.moment ∙ c.requires.now.0 in
     taken_no_wilder c.args.now v (g.S.Supervise.world c.act.new.supervisor) m c.requires.drives.0 c.requires.drives.1 c.requires.now.1 c.act.result

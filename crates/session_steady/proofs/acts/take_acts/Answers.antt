@@ -20,9 +20,9 @@ acts-init g c = record {
 pub take_act-requires-clause-now : goal.take_act-requires-clause-now
 take_act-requires-clause-now g c = (c.acts.invariant.now, c.requires.now.1)
 
-pub take_act-requires-clause-placed : goal.take_act-requires-clause-placed
-take_act-requires-clause-placed g c =
-    let q = c.requires.placed in
+pub take_act-requires-clause-from_state : goal.take_act-requires-clause-from_state
+take_act-requires-clause-from_state g c =
+    let q = c.requires.from_state in
     let w = c.acts.invariant.trace q.0 q.1 q.2 in
     (state_after q.0 w.0, w.3, idle_on q.0 (state_after q.0 w.0) w.2 q.2)
 

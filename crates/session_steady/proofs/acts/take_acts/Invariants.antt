@@ -3,7 +3,7 @@ use Rattle.step_runner.specs.Entries.{Listed}
 use Rattle.histories.specs.Phases.{duty_of, is_idle}
 use Rattle.histories.specs.TraceEvents.{TraceEvent}
 use Rattle.histories.specs.States.{SessionState, state_after}
-use Rattle.session_boots.specs.Traces.{Acts}
+use Rattle.session_boots.specs.Traces.{ActTrace}
 use Rattle.law_termination.specs.TurnRank.{turn_rank}
 use Rattle.session_acts.specs.Runs.{IsInTurn}
 use Rattle.session_steady.specs.Runs.{IsSince}
@@ -16,7 +16,7 @@ invariant-acts g l = record {
   no_wilder : IsNoWilder (g.S.Supervise.world l.fn.supervisor) (g.S.Supervise.world l.supervisor);
   trace : (p : SessionState) → IsInTurn p (g.S.Supervise.world l.fn.supervisor) (Listed g.R.Runner.list g.R.Runner.told g.R.Runner.asked l.fn.runner)
       (g.R.Runner.living l.fn.runner) → is_idle (duty_of p.device).phase ≡ true →
-      (h : List TraceEvent) × Acts p h (g.R.Runner.list l.fn.runner) (g.R.Runner.list l.runner) × IsSince p (state_after p h)
+      (h : List TraceEvent) × ActTrace p h (g.R.Runner.list l.fn.runner) (g.R.Runner.list l.runner) × IsSince p (state_after p h)
       × IsInTurn (state_after p h) (g.S.Supervise.world l.supervisor) (Listed g.R.Runner.list g.R.Runner.told g.R.Runner.asked l.runner)
       (g.R.Runner.living l.runner);
 }

@@ -12,9 +12,9 @@ use Rattle.session_steady.proofs.settling.settle.Goals as goal
 
 pub pass-now-requires : goal.pass-now-requires
 pass-now-requires g c =
-    let q = c.requires.placed in
+    let q = c.requires.from_state in
     let told = Listed g.R.Runner.list g.R.Runner.told g.R.Runner.asked c.args.runner.now in
-    record { placed = (q.0, q.1, start_of q.0 q.1 (g.S.Supervise.world c.args.supervisor.now) told (g.R.Runner.living c.args.runner.now) q.2) }
+    record { from_state = (q.0, q.1, start_of q.0 q.1 (g.S.Supervise.world c.args.supervisor.now) told (g.R.Runner.living c.args.runner.now) q.2) }
 
 pub returns-then-is_last-clause-last : goal.returns-then-is_last-clause-last
 returns-then-is_last-clause-last g c =
@@ -47,9 +47,9 @@ take_acts-requires-clause-drives g c =
     c.pass-now.ensures.passed in
     (s.drives, steady_on (g.S.Supervise.world c.args.supervisor.now) (g.S.Supervise.world c.pass-now.new.supervisor) c.requires.drives.1 s)
 
-pub take_acts-requires-clause-placed : goal.take_acts-requires-clause-placed
-take_acts-requires-clause-placed g c =
-    let q = c.requires.placed in
+pub take_acts-requires-clause-from_state : goal.take_acts-requires-clause-from_state
+take_acts-requires-clause-from_state g c =
+    let q = c.requires.from_state in
     let told = Listed g.R.Runner.list g.R.Runner.told g.R.Runner.asked c.args.runner.now in
     let living = g.R.Runner.living c.args.runner.now in
     let world = g.S.Supervise.world c.args.supervisor.now in

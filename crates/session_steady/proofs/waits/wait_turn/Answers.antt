@@ -7,12 +7,12 @@ use Rattle.session_steady.proofs.waits.wait_turn.Goals as goal
 
 pub turn_limit-limit-requires : goal.turn_limit-limit-requires
 turn_limit-limit-requires g c =
-    let q = c.requires.placed in
+    let q = c.requires.from_state in
     ap (λ (w : Components). w.moment) q.2.turn.world_is ∙ sym q.2.turn.within.moment ∙ c.requires.now.0
 
-pub wait-requires-clause-placed : goal.wait-requires-clause-placed
-wait-requires-clause-placed g c =
-    let q = c.requires.placed in
+pub wait-requires-clause-from_state : goal.wait-requires-clause-from_state
+wait-requires-clause-from_state g c =
+    let q = c.requires.from_state in
     let told = Listed g.R.Runner.list g.R.Runner.told g.R.Runner.asked c.args.runner.now in (
       q.0,
       ready q.0 q.1 (g.S.Supervise.world c.args.supervisor.now) told (g.R.Runner.living c.args.runner.now) c.turn_limit-limit.result c.args.now q.2
@@ -28,7 +28,7 @@ returns-clause-trace g c = λ p d waits.
 
 pub returns-clause-stays : goal.returns-clause-stays
 returns-clause-stays g c =
-    let q = c.requires.placed in
+    let q = c.requires.from_state in
     let world = g.S.Supervise.world c.args.supervisor.now in
     let moment : world.moment ≡ c.args.now = ap (λ (w : Components). w.moment) q.2.turn.world_is ∙ sym q.2.turn.within.moment ∙ c.requires.now.0 in
     waited_stays c.args.now c.turn_limit-limit.result (g.R.Runner.clock c.args.runner.now) (g.R.Runner.clock c.wait.new.runner) world

@@ -23,7 +23,7 @@ kills-init g c = record {
         ask_acts p world old living given now (g.R.Runner.list c.args.runner.now) (g.R.Runner.list c.moment-now.new.self)
             (omega (arith, past, c.moment-now.ensures.later)) c.moment-now.ensures.list,
         ask_keeps p now,
-        ask_kills p world old living given now new (g.R.Runner.living c.moment-now.new.self) c.moment-now.ensures.told c.moment-now.ensures.asked
+        ask_kills p world old living given now new (g.R.Runner.living c.moment-now.new.self) c.moment-now.ensures.moment c.moment-now.ensures.asked
             c.moment-now.ensures.lives,
         (tt, tt),
       );
@@ -31,7 +31,7 @@ kills-init g c = record {
 
 pub kill-requires : goal.kill-requires
 kill-requires g c =
-    let q = c.requires.placed in
+    let q = c.requires.from_state in
     let w = c.kills.invariant.trace q.0 q.1 in
     let old = Listed g.R.Runner.list g.R.Runner.told g.R.Runner.asked c.kills.runner in
     kill_lives (state_after q.0 w.0) c.kills.last (g.S.Supervise.world c.args.supervisor.now) old (g.R.Runner.living c.kills.runner) w.3 c.in-Some.child
@@ -59,7 +59,7 @@ kills-preserved g c = record {
 
 pub kills-smaller : goal.kills-smaller
 kills-smaller g c =
-    let q = c.requires.placed in
+    let q = c.requires.from_state in
     let w = c.kills.invariant.trace q.0 q.1 in
     let world = g.S.Supervise.world c.args.supervisor.now in
     let old = Listed g.R.Runner.list g.R.Runner.told g.R.Runner.asked c.kills.runner in
@@ -72,7 +72,7 @@ returns g c =
     let world = g.S.Supervise.world c.args.supervisor.now in
     let told = Listed g.R.Runner.list g.R.Runner.told g.R.Runner.asked c.kills.runner in
     let living = g.R.Runner.living c.kills.runner in
-    let q = c.requires.placed in
+    let q = c.requires.from_state in
     let v = c.kills.invariant.trace q.0 q.1 in
     let none = subst (λ (o : Option ℕ). IsNextLiving world c.kills.last o) (none_is c.next_living.result c.in_default.not-Some) c.next_living.ensures in
     record {

@@ -5,10 +5,10 @@ use Rattle.components.specs.Components.{Components}
 use Rattle.histories.specs.TraceEvents.{TraceEvent}
 use Rattle.histories.specs.Phases.{duty_of}
 use Rattle.histories.specs.States.{state_after}
-use Rattle.session_boots.specs.Traces.{Acts}
+use Rattle.session_boots.specs.Traces.{ActTrace}
 use Rattle.session_startup.specs.Runs.{IsAtTurnStart}
 use Rattle.histories.specs.Waits.{has_three}
-use Rattle.law_termination.specs.Drives.{Drives}
+use Rattle.law_termination.specs.Drives.{AreDriven}
 use Rattle.session_transitions.proofs.Entered.{entered}
 use Rattle.session_transitions.proofs.Standing.{change_standing, drives_standing, standing_of}
 use Rattle.session_transitions.proofs.Stage.{long_pending, pending_is, stage_with}
@@ -41,7 +41,8 @@ returns-clause-trace g c = λ p told living enters.
     let differ = c.ready_items_are_counted.ensures.differ ready.0 (duty_of d).items fitted stage.rise ready.2 in
     let keeps = c.changes_keep.ensures.keeps d fitted counts p.world (long_pending d q is stage.long) counted differ enters.recorded enters.orderly in
     let few : has_three counts ≡ false = subst (λ (l : List ℕ). has_three l ≡ false) stage.counts c.requires.few in
-    subst (λ (w : Components). (h : List TraceEvent) × Acts p h told.list told.list × IsAtTurnStart (state_after p h) d w told living) (sym c.change.ensures)
+    subst (λ (w : Components). (h : List TraceEvent) × ActTrace p h told.list told.list ×
+    IsAtTurnStart (state_after p h) d w told living) (sym c.change.ensures)
     (entered c.marks_are_least.ensures.first d fitted counts p (g.S.Supervise.world c.args.supervisor.now) told living enters c.requires.stage ready
     (sym stage.counts) few keeps
     (λ n. c.changes_keep.ensures.owners n fitted counts false p.world))
@@ -60,5 +61,5 @@ returns-clause-drives g c =
     let old = standing_of world in
     let over = c.ready_items_may_come.ensures.take_over ready.0 (duty_of d).items fitted old stage.are_items ready.2 (c.requires.made ready.0 ready.1) in
     let new = c.changes_drive.ensures fitted counts false old (drives_standing world c.requires.drives) over stage.below_each differ in
-    subst (λ (w : Components). Drives w) (sym c.change.ensures)
-    (subst (λ (w : Components). Drives w) (change_standing fitted counts false world) new)
+    subst (λ (w : Components). AreDriven w) (sym c.change.ensures)
+    (subst (λ (w : Components). AreDriven w) (change_standing fitted counts false world) new)

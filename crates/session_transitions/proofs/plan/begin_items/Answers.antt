@@ -2,7 +2,7 @@ use Rattle.std.proofs.Common.{[], ◌∷◌, refl}
 use Rattle.records.specs.Stored as stored
 use Rattle.deploy_state.specs.States.{activating_device, booting_device}
 use Rattle.session_transitions.proofs.Begun.{Begin, begin_went, begun_given_up, begun_opened, can_activate}
-use Rattle.session_transitions.proofs.Turned.{turn_doubt}
+use Rattle.session_transitions.proofs.Turned.{back_doubt}
 use Rattle.session_transitions.proofs.plan.begin_items.Goals as goal
 
 pub activate-requires-clause-may : goal.activate-requires-clause-may
@@ -28,7 +28,7 @@ returns-in-Err-clause-trace g c = λ p world told living from orderly.
       begin_went g.J.Journal.entries g.J.Journal.files g.met.D.Disk.laws c.args.disk.now c.activate.new.disk told.list p d world told living from allowed
           c.activate.ensures.moments,
       refl,
-      turn_doubt g.J.Journal.entries g.J.Journal.files g.met.D.Disk.laws c.args.disk.now c.activate.new.disk p d stored.Activating
+      back_doubt g.J.Journal.entries g.J.Journal.files g.met.D.Disk.laws c.args.disk.now c.activate.new.disk p d stored.Activating
           from.stands.device_is allowed c.activate.ensures.moments,
       begun_given_up p d world told living from orderly,
       (stored.Activating, refl),

@@ -8,7 +8,7 @@ pub turns-init : goal.turns-init
 turns-init c = record {
   many = c.requires.many;
   so_far = no_turns (at_moment c.args.slots.now c.args.moment c.args.steady) c.requires.kept c.requires.whole
-      c.requires.told;
+      c.requires.owes_none;
 }
 
 pub find_held-requires-clause-names : goal.find_held-requires-clause-names

@@ -24,7 +24,7 @@ returns-in-Some-clause-next c =
 pub returns-in-Some-clause-kept : goal.returns-in-Some-clause-kept
 returns-in-Some-clause-kept c =
     let m = c.args.moment in
-    let t = c.in-Some.ensures.told in
+    let t = c.in-Some.ensures.handed_out in
     let s = told_sound t.0 (at_moment c.args.slots.now m c.args.steady) (at_moment c.tell_first.new.slots m c.args.steady)
     (ap (λ (ps : List ComponentState). at_moment ps m c.args.steady) t.1) (record { kept = c.requires.kept; whole = c.requires.whole }) in
     s.kept
@@ -32,13 +32,13 @@ returns-in-Some-clause-kept c =
 pub returns-in-Some-clause-whole : goal.returns-in-Some-clause-whole
 returns-in-Some-clause-whole c =
     let m = c.args.moment in
-    let t = c.in-Some.ensures.told in
+    let t = c.in-Some.ensures.handed_out in
     let s = told_sound t.0 (at_moment c.args.slots.now m c.args.steady) (at_moment c.tell_first.new.slots m c.args.steady)
     (ap (λ (ps : List ComponentState). at_moment ps m c.args.steady) t.1) (record { kept = c.requires.kept; whole = c.requires.whole }) in
     s.whole
 
 pub returns-in-Some-clause-many : goal.returns-in-Some-clause-many
-returns-in-Some-clause-many c = let t = c.in-Some.ensures.told in c.requires.many ∙ sym (told_length t.0 c.args.slots.now c.tell_first.new.slots t.1)
+returns-in-Some-clause-many c = let t = c.in-Some.ensures.handed_out in c.requires.many ∙ sym (told_length t.0 c.args.slots.now c.tell_first.new.slots t.1)
 
 pub act_first-requires-clause-many : goal.act_first-requires-clause-many
 act_first-requires-clause-many c = let n = c.in-None.ensures.none refl in c.requires.many ∙ sym (ap length n.1)
@@ -50,8 +50,8 @@ act_first-requires-clause-kept c = let n = c.in-None.ensures.none refl in
 pub act_first-requires-clause-whole : goal.act_first-requires-clause-whole
 act_first-requires-clause-whole c = let n = c.in-None.ensures.none refl in subst AreWhole (sym n.1) c.requires.whole
 
-pub act_first-requires-clause-told : goal.act_first-requires-clause-told
-act_first-requires-clause-told c = let n = c.in-None.ensures.none refl in subst (λ (ps : List ComponentState). list_any owes ps ≡ false) (sym n.1) n.0
+pub act_first-requires-clause-owes_none : goal.act_first-requires-clause-owes_none
+act_first-requires-clause-owes_none c = let n = c.in-None.ensures.none refl in subst (λ (ps : List ComponentState). list_any owes ps ≡ false) (sym n.1) n.0
 
 pub returns-in-None-clause-next : goal.returns-in-None-clause-next
 returns-in-None-clause-next c =

@@ -15,5 +15,5 @@ returns-in-Some-clause-some c = λ m s.
     tells (at_moment c.args.slots.now m s) (at_moment c.tell_at.new.slots m s) c.in-Some.at c.in-Some.act c.requires.names c.in-Some.ensures
     (ap (λ (ps : List ComponentState). at_moment ps m s) c.tell_at.ensures)
 
-pub returns-in-Some-clause-told : goal.returns-in-Some-clause-told
-returns-in-Some-clause-told c = (c.in-Some.at, c.tell_at.ensures)
+pub returns-in-Some-clause-handed_out : goal.returns-in-Some-clause-handed_out
+returns-in-Some-clause-handed_out c = (c.in-Some.at, c.tell_at.ensures)

@@ -1,5 +1,5 @@
-use Rattle.components.specs.Flags.{Grows}
+use Rattle.components.specs.Flags.{HasSpread}
 use Rattle.supervisor.proofs.marks.spread_known.Given as goal
 
 abbrev pub invariant-loop-turn : goal.invariant-loop-turn
-invariant-loop-turn l = Grows l.slots l.fn.flags l.flags
+invariant-loop-turn l = HasSpread l.slots l.fn.flags l.flags

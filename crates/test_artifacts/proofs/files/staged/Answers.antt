@@ -4,13 +4,13 @@ use Rattle.std.specs.List.Sorted.{IsStrictlySortedBy}
 use Rattle.std.specs.Prelude.{codes}
 use Rattle.records.specs.Stored.{Item, DraftItem, item_view, draft_item_view}
 use Rattle.records.specs.declared.record.DraftItem as code
-use Rattle.device.specs.Plans.{Rise}
+use Rattle.device.specs.Plans.{AreRising}
 use Rattle.device.proofs.PlanWhole.{each_of}
 use Rattle.artifact_store.specs.Paths.{IsNamedDraft}
 use Rattle.artifact_store.specs.Staged.{HasItsFiles, KeepsFiles, draft_name}
 use Rattle.test_artifacts.proofs.files.staged.Goals as goal
 
-one_rises : (x : List ℕ) → Rise (x ∷ [])
+one_rises : (x : List ℕ) → AreRising (x ∷ [])
 unfolding IsStrictlySortedBy
 one_rises x = (tt, tt)
 
@@ -24,7 +24,7 @@ stage-requires-clause-drafted g c =
 
 pub stage-requires-clause-rise : goal.stage-requires-clause-rise
 stage-requires-clause-rise g c =
-    subst (λ (ds : List code.DraftItem). Rise (map draft_name (map draft_item_view ds))) (sym c.in_ok-draft.ensures) (one_rises c.in_ok-item.item.name)
+    subst (λ (ds : List code.DraftItem). AreRising (map draft_name (map draft_item_view ds))) (sym c.in_ok-draft.ensures) (one_rises c.in_ok-item.item.name)
 
 pub stage-requires-clause-differ : goal.stage-requires-clause-differ
 stage-requires-clause-differ g c =

@@ -1,7 +1,7 @@
 use Rattle.std.proofs.Common.{sym, subst}
 use Rattle.recipe_reader.specs.Members.{members}
 use Rattle.recipe_reader.specs.Sets.{asked}
-use Rattle.why_not.specs.Ends.{Stands}
+use Rattle.why_not.specs.Ends.{IsReachedSet}
 use Rattle.why_not.specs.Found.{IsFound}
 use Rattle.why_not.proofs.Ends.{stands_nil}
 use Rattle.why_not.proofs.Finding.{explained_start, up_to}
@@ -11,7 +11,7 @@ pub explained-requires : goal.explained-requires
 explained-requires c =
     let ms = members c.args.candidates.now in
     let ws = asked c.args.wanted.now in
-    record { count = c.requires.count; stands = subst (Stands ms ws) (sym c.new-taken.ensures.items) (stands_nil ms ws) }
+    record { count = c.requires.count; stands = subst (IsReachedSet ms ws) (sym c.new-taken.ensures.items) (stands_nil ms ws) }
 
 pub returns-clause-found : goal.returns-clause-found
 returns-clause-found c =

@@ -4,9 +4,9 @@ use Rattle.std.proofs.lemmas.Bool.{false≢true}
 use Rattle.std.proofs.lemmas.List.{length-map}
 use Rattle.recipe_reader.specs.Members.{members, member}
 use Rattle.recipe_reader.specs.Sets.{asked, required_names, IsComplete}
-use Rattle.why_not.specs.Ends.{Stands, FitsWith}
+use Rattle.why_not.specs.Ends.{IsReachedSet, FitsWith}
 use Rattle.why_not.specs.Found.{IsFound, IsTried, UsesUp}
-use Rattle.why_not.specs.Gathers.{JoinsOthers, Gathers, BranchesUseUp, IsPlainSoFar}
+use Rattle.why_not.specs.Gathers.{JoinsOthers, AreBranchesSoFar, BranchesUseUp, IsPlainSoFar}
 use Rattle.why_not.specs.Picks.{IsPicked}
 use Rattle.why_not.specs.declared.explaining.Found.TheVariants.{TooLarge, Because}
 use Rattle.why_not.specs.declared.why.Why.{Why, Split}
@@ -31,7 +31,7 @@ tried-explained-requires t c =
       falls,
       (
         c.requires.count,
-        subst (Stands ms ws) (sym c.in_ok-push.ensures.items)
+        subst (IsReachedSet ms ws) (sym c.in_ok-push.ensures.items)
             (stands_with ms ws c.args.taken.now.items c.args.place next.0 c.requires.stands next.1 next.2 fits),
       ),
     )
@@ -58,7 +58,7 @@ explained-loop-i-init t c =
     record {
       same = refl;
       falls = omega (arith, c.if-left-eq0.false);
-      gathers = subst (Gathers ms ws taken n 0 c.in_ok-used.used.items) (sym c.new-branches.ensures.items)
+      gathers = subst (AreBranchesSoFar ms ws taken n 0 c.in_ok-used.used.items) (sym c.new-branches.ensures.items)
           (gathers_start ms ws taken n c.in_ok-used.used.items
           (λ x i. subst (λ l. Contains l x) c.as_slice-2.ensures.value (c.in_ok-used.ensures.within x i)) c.in_ok-used.ensures.required);
       small = subst (BranchesUseUp c.args.left.now _) (sym c.new-branches.ensures.items) (uses_none c.args.left.now _ (omega (arith, c.if-left-eq0.false)));
@@ -80,7 +80,7 @@ explained-tried-requires t c =
       (
         c.requires.count,
         (
-          subst (Stands ms ws) (sym c.loop-i.invariant.same) c.requires.stands,
+          subst (IsReachedSet ms ws) (sym c.loop-i.invariant.same) c.requires.stands,
           (c.in-Some.pick.name.now, record { required = pick.listed; untaken = pick.untaken }, c.is_named.ensures.0 c.if-is_named.true),
         ),
       ),
@@ -127,9 +127,9 @@ explained-loop-i-preserved t c =
           record {
             same = subst (λ (v : Vec ℕ Global). v.items ≡ taken) (sym w.taken-is) (w.in_ok-part.ensures.same ∙ c.loop-i.invariant.same);
             falls = subst (λ l. l < old) (sym w.left-is) (omega (arith, fewer, less));
-            gathers = subst (λ (v : Vec ℕ Global). Gathers ms ws taken n (i + 1) v.items c.if-is_named.branches.items) (sym w.used-is)
-                (subst (λ (v : Vec (ℕ × Why) Global). Gathers ms ws taken n (i + 1) more v.items) (sym w.branches-is)
-                (subst (Gathers ms ws taken n (i + 1) more) (sym w.in_ok-push-in-Because.ensures.items)
+            gathers = subst (λ (v : Vec ℕ Global). AreBranchesSoFar ms ws taken n (i + 1) v.items c.if-is_named.branches.items) (sym w.used-is)
+                (subst (λ (v : Vec (ℕ × Why) Global). AreBranchesSoFar ms ws taken n (i + 1) more v.items) (sym w.branches-is)
+                (subst (AreBranchesSoFar ms ws taken n (i + 1) more) (sym w.in_ok-push-in-Because.ensures.items)
                 (gathers_push ms ws taken n i c.loop-i.used.items more part.used.items c.loop-i.branches.items part.why c.loop-i.invariant.gathers
                 (c.is_named.ensures.0 w.if-is_named.true) found.0 joins)));
             small = subst (λ l. BranchesUseUp old l c.if-is_named.branches.items) (sym w.left-is)
@@ -145,8 +145,8 @@ explained-loop-i-preserved t c =
       | explained-else-is_named w ↦ record {
         same = subst (λ (v : Vec ℕ Global). v.items ≡ taken) (sym w.taken-is) c.loop-i.invariant.same;
         falls = subst (λ l. l < old) (sym w.left-is) c.loop-i.invariant.falls;
-        gathers = subst (λ (v : Vec ℕ Global). Gathers ms ws taken n (i + 1) v.items c.if-is_named.branches.items) (sym w.used-is)
-            (subst (λ (v : Vec (ℕ × Why) Global). Gathers ms ws taken n (i + 1) c.loop-i.used.items v.items) (sym w.branches-is)
+        gathers = subst (λ (v : Vec ℕ Global). AreBranchesSoFar ms ws taken n (i + 1) v.items c.if-is_named.branches.items) (sym w.used-is)
+            (subst (λ (v : Vec (ℕ × Why) Global). AreBranchesSoFar ms ws taken n (i + 1) c.loop-i.used.items v.items) (sym w.branches-is)
             (gathers_skip ms ws taken n i c.loop-i.used.items c.loop-i.branches.items c.loop-i.invariant.gathers
             (λ e. false≢true (sym w.if-is_named.false ∙ c.is_named.ensures.1 e))));
         small = subst (λ l. BranchesUseUp old l c.if-is_named.branches.items) (sym w.left-is)
@@ -169,7 +169,7 @@ explained-returns-clause-found t c =
     subst (λ m. IsFound ms ws c.args.form taken c.args.left.now c.loop-i.left (Because (record { why = Split m c.loop-i.branches; used = c.loop-i.used })))
     (sym c.in_ok-copy.ensures)
     (split_found ms ws taken n c.args.form c.args.left.now c.loop-i.left c.loop-i.used c.loop-i.branches
-    (subst (λ i. Gathers ms ws taken n i c.loop-i.used.items c.loop-i.branches.items) all c.loop-i.invariant.gathers) pick.untaken pick.least
+    (subst (λ i. AreBranchesSoFar ms ws taken n i c.loop-i.used.items c.loop-i.branches.items) all c.loop-i.invariant.gathers) pick.untaken pick.least
     c.loop-i.invariant.plain)
 
 pub explained-returns-then-is_left_out-clause-small : goal.explained-returns-then-is_left_out-clause-small

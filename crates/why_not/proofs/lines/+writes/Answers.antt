@@ -1,5 +1,5 @@
 use Rattle.std.proofs.Common.{◌≡◌, ◌++◌, ◌+◌, ◌∙◌, [], List, ℕ, drop, arith, append_assoc, rules, subst}
-use Rattle.edges.specs.Pieces.{Writes}
+use Rattle.edges.specs.Pieces.{WriteOutcome}
 use Rattle.edges.proofs.Sent.{appends_more, appends_none, written_on}
 use Rattle.recipe_reader.specs.Members.{members}
 use Rattle.why_not.specs.Reasons.{seen, branches_seen}
@@ -23,7 +23,7 @@ write_branches-returns-in_err-write_try-clause-bytes g t c =
     let all = joined_lines (branch_lines ms level (branches_seen bs)) in
     let own = joined_lines (reason_lines ms (level + 1) (seen b.1)) in
     let others = joined_lines (branch_lines ms level (branches_seen (drop (i + 1) bs))) in
-    subst (λ (l : List (ℕ × Why)). Writes old new (joined_lines (branch_lines ms level (branches_seen l))) c.from_residual.result)
+    subst (λ (l : List (ℕ × Why)). WriteOutcome old new (joined_lines (branch_lines ms level (branches_seen l))) c.from_residual.result)
     c.deref-place-items.ensures.value
     (fault_within old (g.K.Sink.held c.loop-place.sink) new all sent.0 (try_line ms level b.0) (own ++ others) c.from_residual.result
     c.in_err-write_try.field-0.0 c.from_residual.ensures.1
@@ -53,7 +53,7 @@ write_branches-returns-in_err-write_reason-clause-bytes g t c =
     let one = try_line ms level b.0 in
     let own = joined_lines (reason_lines ms (level + 1) (seen b.1)) in
     let others = joined_lines (branch_lines ms level (branches_seen (drop (i + 1) bs))) in
-    subst (λ (l : List (ℕ × Why)). Writes old new (joined_lines (branch_lines ms level (branches_seen l))) c.from_residual-in_err-write_reason.result)
+    subst (λ (l : List (ℕ × Why)). WriteOutcome old new (joined_lines (branch_lines ms level (branches_seen l))) c.from_residual-in_err-write_reason.result)
     c.deref-place-items.ensures.value
     (fault_within old mid new all (sent.0 ++ one) own others c.from_residual-in_err-write_reason.result c.in_err-write_reason.field-0.0
     c.from_residual-in_err-write_reason.ensures.1 (branch_text ms level bs i b all sent.0 c.loop-place-test.true c.loop-place-item.is sent.1)

@@ -7,9 +7,9 @@ use Rattle.why_not.proofs.lines.write_names.Given as goal
 
 abbrev pub invariant-loop-place : goal.invariant-loop-place
 invariant-loop-place g l = record {
-  sent : (front : List ℕ)
-      × (flat_map (λ p. 32 ∷ name_text (members l.candidates) p) l.places ≡ front ++ flat_map (λ p. 32 ∷ name_text (members l.candidates) p)
+  sent : (prefix : List ℕ)
+      × (flat_map (λ p. 32 ∷ name_text (members l.candidates) p) l.places ≡ prefix ++ flat_map (λ p. 32 ∷ name_text (members l.candidates) p)
       (drop l.place-index l.places))
-      × Appends (g.K.Sink.held l.fn.sink) (g.K.Sink.held l.sink) front;
+      × Appends (g.K.Sink.held l.fn.sink) (g.K.Sink.held l.sink) prefix;
   quiet : g.K.Sink.faults l.sink ≡ g.K.Sink.faults l.fn.sink;
 }

@@ -1,7 +1,7 @@
 use Rattle.std.proofs.Common.{subst}
 use Rattle.recipe_reader.specs.Members.{members}
 use Rattle.recipe_reader.specs.Sets.{needs_of}
-use Rattle.recipe_reader.specs.Searches.{Suits}
+use Rattle.recipe_reader.specs.Searches.{IsSuited}
 use Rattle.why_not.specs.Certificates.{IsAgainst}
 use Rattle.why_not.proofs.Each.{each_more, each_all}
 use Rattle.why_not.proofs.Firsts.{first_against_at}
@@ -10,8 +10,8 @@ use Rattle.why_not.proofs.reasons.first_against.Goals as goal
 pub loop-other-preserved : goal.loop-other-preserved
 loop-other-preserved c =
     let ms = members c.args.candidates.now in
-    each_more (λ q. Suits ms (needs_of ms q) c.args.place) c.args.taken.now c.loop-other.other-index 0 c.loop-other-test.true c.loop-other.invariant
-    (subst (λ ds. Suits ms ds c.args.place) c.needs_at.ensures (c.needs_against.ensures.fits c.if-needs_against.false))
+    each_more (λ q. IsSuited ms (needs_of ms q) c.args.place) c.args.taken.now c.loop-other.other-index 0 c.loop-other-test.true c.loop-other.invariant
+    (subst (λ ds. IsSuited ms ds c.args.place) c.needs_at.ensures (c.needs_against.ensures.fits c.if-needs_against.false))
 
 pub returns-then-needs_against : goal.returns-then-needs_against
 returns-then-needs_against c =
@@ -22,4 +22,4 @@ returns-then-needs_against c =
 pub returns : goal.returns
 returns c =
     let ms = members c.args.candidates.now in
-    each_all (λ q. Suits ms (needs_of ms q) c.args.place) c.args.taken.now c.loop-other.other-index c.loop-other-test.false c.loop-other.invariant
+    each_all (λ q. IsSuited ms (needs_of ms q) c.args.place) c.args.taken.now c.loop-other.other-index c.loop-other-test.false c.loop-other.invariant

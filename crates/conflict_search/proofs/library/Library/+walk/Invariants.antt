@@ -3,7 +3,7 @@ use Rattle.std.specs.List.{Contains}
 use Rattle.recipe_reader.specs.Sets.{required_names}
 use Rattle.recipe_reader.proofs.Room.{room}
 use Rattle.conflict_search.specs.Numbers.{IsNumber}
-use Rattle.conflict_search.specs.Stands.{members_in, wanted_in, Stands}
+use Rattle.conflict_search.specs.Stands.{members_in, wanted_in, IsSearchState}
 use Rattle.conflict_search.proofs.Nogoods.{AreRuledOut}
 use Rattle.conflict_search.proofs.library.Library.+walk.Given as goal
 
@@ -21,7 +21,7 @@ decreases-go_on l = 4 * room (members_in l.self.now) l.state.now.board.places.it
 
 abbrev pub invariant-decide-loop-place : goal.invariant-decide-loop-place
 invariant-decide-loop-place l = record {
-  stands : Stands l.self l.state;
+  stands : IsSearchState l.self l.state;
   same : l.state.board.places.items ≡ l.fn.state.board.places.items;
   rises : l.fn.tries ≤ l.tries;
   within : (x : ℕ) → Contains l.gathered.items x → Contains l.fn.state.board.places.items x;

@@ -4,7 +4,7 @@ use Rattle.recipe_reader.specs.Sets.{IsValid}
 use Rattle.recipe_reader.specs.Searches.{IsBest}
 use Rattle.recipe_reader.proofs.Preferring.{no_valid}
 use Rattle.conflict_search.specs.Conflicts.{IsConflict}
-use Rattle.conflict_search.specs.Stands.{members_in, wanted_in, Stands, FailsWith}
+use Rattle.conflict_search.specs.Stands.{members_in, wanted_in, IsSearchState, FailsWith}
 use Rattle.conflict_search.specs.declared.walk.State.{State}
 use Rattle.conflict_search.proofs.Nogoods.{prefix_start, conflict_none}
 use Rattle.conflict_search.proofs.library.Library.best.Goals as goal
@@ -15,7 +15,7 @@ returns-in-Some-2-clause-found c = λ s v.
     let ms = members_in library in
     let wanted = wanted_in library in
     let state = c.in-Some.state in
-    let start = MatchOption-at_some ((s : List ℕ) → IsValid ms wanted s → ⊥) (λ (state : State). Stands library state ×
+    let start = MatchOption-at_some ((s : List ℕ) → IsValid ms wanted s → ⊥) (λ (state : State). IsSearchState library state ×
     (state.board.places.items ≡ [])) state c.in-Some.is c.in_ok-state.ensures in
     let fails = MatchOption-at_some (IsBest ms wanted state.board.places.items c.go_on.new.state.board.places.items) (λ (v : Vec ℕ Global). FailsWith library
     state c.go_on.new.state state.board.places.items v.items)

@@ -3,7 +3,7 @@ use Rattle.std.specs.Prelude.{IfSome, slice_index_or}
 use Rattle.std.proofs.lemmas.List.{length-map}
 use Rattle.std.proofs.lemmas.List.Elements.{All-contains}
 use Rattle.std.proofs.lemmas.Option.{same_Some, none-some}
-use Rattle.npm_ranges.specs.Ranges.{Meets}
+use Rattle.npm_ranges.specs.Ranges.{IsInRange}
 use Rattle.recipe_reader.specs.Members.{member}
 use Rattle.conflict_search.specs.declared.demands.Demand.{Demand}
 use Rattle.conflict_search.specs.Stands.{members_in, IsMetIn}
@@ -31,7 +31,7 @@ loop-demand-preserved c = λ d q i e.
       | in-Some+else-not-holds w ↦ λ q e.
           (let same = same_Some w.in-Some.chosen q (sym w.in-Some.is ∙ c.chosen_of.ensures ∙ e) in
           subst (IsMetIn ms c.demand-item.result.range.now) same
-          (subst (λ o. IfSome o (λ v. Meets v c.demand-item.result.range.now)) (sym w.version_at.ensures) (w.holds.ensures.0 w.if-not-holds.false)))
+          (subst (λ o. IfSome o (λ v. IsInRange v c.demand-item.result.range.now)) (sym w.version_at.ensures) (w.holds.ensures.0 w.if-not-holds.false)))
       | in_default w ↦ λ q e. absurd (none-some q (sym w.in_default.is ∙ c.chosen_of.ensures ∙ e))
     ])) d i q e
 

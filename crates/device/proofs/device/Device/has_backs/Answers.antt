@@ -22,6 +22,6 @@ returns-in-Some c =
     let way = subst (λ (o : Option Pending). IfSome o (IsUnderWay d)) is c.requires.sound.pending in
     let both = told_by d.origin d.set q c.args.spare.now.back_flags c.has_flag.result c.requires.sound.set way.0.plan_is spare.backs c.has_flag.ensures in
     record {
-      told = subst (λ (o : Option Pending). IfSome o (λ q. IsTrue c.has_flag.result ↔ (backs d.origin d.set q.plan (reach_of q) ≡ [] → ⊥))) (sym is) both.0;
+      answers = subst (λ (o : Option Pending). IfSome o (λ q. IsTrue c.has_flag.result ↔ (backs d.origin d.set q.plan (reach_of q) ≡ [] → ⊥))) (sym is) both.0;
       lawful = subst (λ (o : Option Pending). IfSome o (λ q. IsTrue c.has_flag.result ↔ IsSomeAnd d.origin (HasBacks d.set q))) (sym is) both.1;
     }

@@ -6,7 +6,7 @@ use Rattle.records.specs.declared.record.Item as code
 use Rattle.records.specs.Stored.{Item, Kept, item_view}
 use Rattle.device.specs.Fronts.{ended}
 use Rattle.device.proofs.Places.{there}
-use Rattle.device.proofs.Telling.{told_at, front_at, behind_at, moved_to}
+use Rattle.device.proofs.Telling.{told_at, prefix_at, behind_at, moved_to}
 use Rattle.device.proofs.device.Device.kept_at.Goals as goal
 
 pub returns-in_ok-copy-in-Some : goal.returns-in_ok-copy-in-Some
@@ -18,7 +18,7 @@ returns-in_ok-copy-in-Some c =
     let found = there c.as_slice.result.now at x (ltb-true _ _ (sym c.in-Some.ensures.lookup.0)) c.in-Some.ensures.lookup.1 in
     let here : slice_get set at ≡ Some x = subst (λ (l : List code.Item). slice_get l at ≡ Some x) c.as_slice.ensures found in
     let shown : slice_get (map item_view set) at ≡ Some copy = told_at item_view set at x here ∙ ap (λ (i : Item). Some i) (sym c.in_ok-copy-in-Some.ensures) in
-    front_at (map Kept (map item_view set)) (map ended c.args.self.now.closed) at (Kept copy) (told_at Kept (map item_view set) at copy shown)
+    prefix_at (map Kept (map item_view set)) (map ended c.args.self.now.closed) at (Kept copy) (told_at Kept (map item_view set) at copy shown)
 
 pub returns-in-None : goal.returns-in-None
 returns-in-None c =

@@ -3,11 +3,11 @@ use Rattle.std.specs.Prelude.{OnOk}
 use Rattle.records.specs.Stored.{Record, Grouped, Kept, Ended, item_view, record_view}
 use Rattle.device.specs.declared.fault.RestoreFault.{RestoreFault}
 use Rattle.device.specs.Regularity.{IsRegularRecord}
-use Rattle.device.specs.Rebuilt.{Building, building_view, Came, IsOrderly}
+use Rattle.device.specs.Rebuilt.{Building, building_view, NextOutcome, IsOrderly}
 use Rattle.device.proofs.Fronting.{stays_orderly}
 use Rattle.device.proofs.rebuilding.Rebuilding.take.Goals as goal
 
-on_ok : (r : Record) (old new : Building) (result : Result (Unit {0}) RestoreFault) → IsRegularRecord r → IsOrderly old → Came r old new result →
+on_ok : (r : Record) (old new : Building) (result : Result (Unit {0}) RestoreFault) → IsRegularRecord r → IsOrderly old → NextOutcome r old new result →
     OnOk result (IsOrderly new)
 on_ok r old new (Ok x) regular are came = stays_orderly r old new regular are came.0 came.1
 on_ok r old new (Err e) regular are came = tt

@@ -1,6 +1,6 @@
 use Rattle.std.proofs.Common.{min, arith, ◌≡◌, ℕ, length, refl, subst}
 use Rattle.std.proofs.lemmas.Result.{on_ok_weaker, on_err_weaker}
-use Rattle.disk_model.specs.Disk.{Torn, Step, After}
+use Rattle.disk_model.specs.Disk.{Torn, Step, IsAfter}
 use Rattle.disk_model.specs.Files.{image_of}
 use Rattle.disk_model.specs.Memory.{seen_by, left_by}
 use Rattle.disk_model.specs.Laws.Replay.{unchanged, torn_none}
@@ -31,6 +31,6 @@ returns-clause-moments c =
     let place : min c.args.at (length (seen_by c.args.self.now file)) ≡ c.args.at = omega arith in
     moments c.args.self.now _ refl c.write-done.result (Written file c.args.at c.args.bytes.now) _
     (unchanged _ file (Torn c.args.at n) (torn_none c.args.at n))
-    (λ i was. subst (λ (k : ℕ). After (left_by c.args.self.now) (Step file (Torn k n)) i) place was)
+    (λ i was. subst (λ (k : ℕ). IsAfter (left_by c.args.self.now) (Step file (Torn k n)) i) place was)
     (on_ok_weaker c.write-done.result (λ done. done.calls) c.write-done.ensures.ok)
     (on_err_weaker c.write-done.result (λ none. none.calls) c.write-done.ensures.err)

@@ -1,9 +1,9 @@
 use Rattle.std.proofs.Common.{◌≡◌, ◌≤◌, ◌+◌, ℕ, Bool, IsTrue, List, [], ◌∷◌, ◌++◌, inl, inr, take, length, refl, sym, ◌∙◌, ap, subst, arith, length-append}
 use Rattle.std.specs.Int.{w32, to_be_bytes}
-use Rattle.disk_model.specs.Disk.{Image, Step, Torn, After, Settled, Leaves, DiskLaws}
+use Rattle.disk_model.specs.Disk.{Image, Step, Torn, IsAfter, Settled, HasLeft, DiskLaws}
 use Rattle.disk_model.specs.Moments.{step_as, then_step, tells_of}
-use Rattle.gate_log.specs.Entries.{most_payload, joined, ClosedAt, Entries}
-use Rattle.gate_log.specs.Journal.{Within, IsBehind, BeforeOrAfter, files_of, entries_in, stands_in, reads_behind}
+use Rattle.gate_log.specs.Entries.{most_payload, joined, ClosedAt, HasEntries}
+use Rattle.gate_log.specs.Journal.{IsChangeIn, IsBehind, BeforeOrAfter, files_of, entries_in, stands_in, reads_behind}
 use Rattle.gate_log.specs.declared.log.Log.{Log}
 use Rattle.gate_log.proofs.Gates.{kept, staged_is, torn_gate, opened}
 use Rattle.gate_log.proofs.Whole.{as_within}
@@ -13,8 +13,8 @@ all_closed : (images : Image → Type 0) (file bytes : List ℕ) (place : ℕ) (
     ClosedAt bytes place payloads → (i : Image) → images i → ClosedAt (i file) place payloads
 all_closed images file bytes place payloads settled closed i left = subst (λ (l : List ℕ). ClosedAt l place payloads) (sym (settled i left)) closed
 
-reaches : (file front rest : List ℕ) (end : ℕ) → file ≡ front ++ 0 ∷ rest → end ≡ length front → end ≤ length file
-reaches file front rest end is end_is = omega (arith, ap length is, length-append front (0 ∷ rest), end_is)
+reaches : (file prefix rest : List ℕ) (end : ℕ) → file ≡ prefix ++ 0 ∷ rest → end ≡ length prefix → end ≤ length file
+reaches file prefix rest end is end_is = omega (arith, ap length is, length-append prefix (0 ∷ rest), end_is)
 
 has_gate : (file : List ℕ) (end : ℕ) (payloads : List (List ℕ)) → ClosedAt file end payloads → end + 1 ≤ length file
 has_gate file end payloads h = omega (arith, ap length h.file_is, length-append (joined h.entries) (0 ∷ h.tail), h.end_is)
@@ -23,16 +23,16 @@ has_gate file end payloads h = omega (arith, ap length h.file_is, length-append 
 opened_moments : {D : Type 0} {is_modelled : Bool} {seen : D → Image} {may_leave : D → Image → Type 0} {moment : D → ℕ} {left_since : D → ℕ → Image → Type 0}
     → DiskLaws is_modelled seen may_leave moment left_since → (file : List ℕ) (log : Log) (old mid new : D) (payloads : List (List ℕ)) (payload : List ℕ)
     → IsBehind may_leave (stands_in file) log old payloads → 1 ≤ length payload → length payload ≤ most_payload
-    → Leaves moment left_since old mid (After (may_leave old) (Step file (λ a b. take (log.end + 1) b ≡ take (log.end + 1) a)))
+    → HasLeft moment left_since old mid (IsAfter (may_leave old) (Step file (λ a b. take (log.end + 1) b ≡ take (log.end + 1) a)))
     → Settled (may_leave mid) file (seen mid file)
     → (IsTrue is_modelled → (rest : List ℕ) × (seen mid file ≡ take (log.end + 1) (seen old file) ++ to_be_bytes w32 (length payload) ++ payload ++ 0 ∷ rest))
-    → Leaves moment left_since mid new (After (may_leave mid) (Step file (Torn log.end 1)))
-    → Leaves moment left_since old new (After (may_leave old) (Within (files_of file) (BeforeOrAfter (entries_in file) payloads payload)))
+    → HasLeft moment left_since mid new (IsAfter (may_leave mid) (Step file (Torn log.end 1)))
+    → HasLeft moment left_since old new (IsAfter (may_leave old) (IsChangeIn (files_of file) (BeforeOrAfter (entries_in file) payloads payload)))
 opened_moments {seen = seen} laws file log old mid new payloads payload behind some fits staging settled written opening =
     let end = log.end in
     let closed = reads_behind laws (stands_in file) log old payloads behind in
-    as_within laws file old new (BeforeOrAfter Entries payloads payload)
-    (then_step laws file old mid new _ _ (λ _ b. BeforeOrAfter Entries payloads payload b) (λ a. ClosedAt a end payloads) (λ b. b ≡ seen mid file)
+    as_within laws file old new (BeforeOrAfter HasEntries payloads payload)
+    (then_step laws file old mid new _ _ (λ _ b. BeforeOrAfter HasEntries payloads payload b) (λ a. ClosedAt a end payloads) (λ b. b ≡ seen mid file)
     staging opening behind.each settled
     (λ told a b at is. inl (inr (end, kept a end payloads at b is)))
     (λ told a b d at is same torn.
@@ -58,8 +58,8 @@ open_gate-requires g c = record {
 pub returns-in_err-stage-clause-any_moment : goal.returns-in_err-stage-clause-any_moment
 returns-in_err-stage-clause-any_moment g c payloads is_open =
     let end = c.args.self.now.end in
-    as_within g.met.D.Disk.laws c.args.file.now c.args.disk.now c.stage.new.disk (BeforeOrAfter Entries payloads c.args.payload.now)
-    (step_as g.met.D.Disk.laws c.args.file.now c.args.disk.now c.stage.new.disk _ (λ _ new. BeforeOrAfter Entries payloads c.args.payload.now new)
+    as_within g.met.D.Disk.laws c.args.file.now c.args.disk.now c.stage.new.disk (BeforeOrAfter HasEntries payloads c.args.payload.now)
+    (step_as g.met.D.Disk.laws c.args.file.now c.args.disk.now c.stage.new.disk _ (λ _ new. BeforeOrAfter HasEntries payloads c.args.payload.now new)
     (λ a. ClosedAt a end payloads)
     c.stage.ensures.moments is_open.each
     (λ told a b closed is. inl (inr (end, kept a end payloads closed b is))))

@@ -5,14 +5,14 @@ use Rattle.host_edges.proofs.runner.ShellRunnerRunner.wait.Goals as goal
 pub returns-in-Some-clause-notes : goal.returns-in-Some-clause-notes
 returns-in-Some-clause-notes g c = record {
   entry = λ now e. absurd (cc e);
-  told = c.end_child.ensures.same.2 ∙ c.poll_until.ensures.same.1;
+  moment = c.end_child.ensures.same.2 ∙ c.poll_until.ensures.same.1;
   asked = c.end_child.ensures.same.3 ∙ c.poll_until.ensures.same.2;
 }
 
 pub returns-in-None-clause-notes : goal.returns-in-None-clause-notes
 returns-in-None-clause-notes g c = record {
   entry = λ now e. absurd (cc e);
-  told = c.poll_until.ensures.same.1;
+  moment = c.poll_until.ensures.same.1;
   asked = c.poll_until.ensures.same.2;
 }
 

@@ -1,6 +1,6 @@
 use Rattle.std.proofs.Common.{◌≡◌, Option, Some, None, sym, ap, subst, ◌∙◌, arith}
 use Rattle.records.specs.Layout.{record_of}
-use Rattle.records.specs.Gives.{Fails}
+use Rattle.records.specs.Gives.{IsReadFailure}
 use Rattle.records.specs.Stored.{Record}
 use Rattle.records.proofs.Leaves.{some_is}
 use Rattle.records.proofs.Layouts.{record_takes, record_again, record_asks}
@@ -22,5 +22,5 @@ contradict (Some x) r p q = absurd cc
 
 pub returns-in-Err-Bad-clause-none : goal.returns-in-Err-Bad-clause-none
 returns-in-Err-Bad-clause-none c r spelled =
-    let none : record_of c.args.bytes.now ≡ None = subst (λ s. Fails s (record_of c.args.bytes.now)) c.in-Err-Bad.field-0-is c.in-Err-Bad.ensures in
+    let none : record_of c.args.bytes.now ≡ None = subst (λ s. IsReadFailure s (record_of c.args.bytes.now)) c.in-Err-Bad.field-0-is c.in-Err-Bad.ensures in
     contradict (record_of c.args.bytes.now) r none (ap record_of spelled.same ∙ record_again r spelled.fits)

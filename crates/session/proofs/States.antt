@@ -16,12 +16,12 @@ use Rattle.components.specs.Components.{Components, Child, ComponentState, is_ov
 use Rattle.components.specs.Answers.{living_numbers}
 use Rattle.components.specs.Turns.{owes}
 use Rattle.components.specs.declared.kinds.Prepared.{Prepared}
-use Rattle.law_supervisor.specs.Sound.{AreSound, Differ, HaveOwnNames, IsOrderly}
+use Rattle.law_supervisor.specs.Sound.{AreSound, AreDistinct, HaveOwnNames, IsOrderly}
 use Rattle.histories.specs.Phases.{Generation, Phase, duty_of, idle, is_shutting_down}
 use Rattle.histories.specs.TraceEvents.{TraceEvent, Ran, Booted, WaitElapsed, KilledOnAbort, Recorded, Moved, ReadClock, Heard, InboxAsked, Changed, StopsAll}
 use Rattle.histories.specs.States.{SessionState, booted, cut_off, leaves, state_after}
-use Rattle.histories.specs.Follows.{Lives, MayStopAll}
-use Rattle.histories.specs.Courses.{IsBare, IsEnd, Stands, gives_up, is_restart}
+use Rattle.histories.specs.Follows.{IsLiving, MayStopAll}
+use Rattle.histories.specs.Courses.{IsBare, IsEnd, IsStateOf, gives_up, is_restart}
 use Rattle.session_boots.specs.Stands.{IsBetween, IsAtBootStage}
 use Rattle.session_boots.proofs.Entries.{never}
 use Rattle.session_boots.proofs.Still.{childless}
@@ -109,12 +109,12 @@ no_part (Some x) is h = absurd cc
 no_boot : (o : Option Child) (n : ℕ) → o ≡ None → IsSomeAnd o (λ (c : Child). c.number ≡ n) → ⊥
 no_boot o n is h = subst (λ (x : Option Child). IsSomeAnd x (λ (c : Child). c.number ≡ n)) is h
 
-none_lives : (p : SessionState) (n : ℕ) → IsBare p → Lives n p → ⊥
+none_lives : (p : SessionState) (n : ℕ) → IsBare p → IsLiving n p → ⊥
 none_lives p n bare (inl h) = no_part (owner n p.world.parts)
     (no_owner_in 0 n p.world.parts (not_false (list_any (λ (q : ComponentState). has_child q.children) p.world.parts) bare.parts)) h
 none_lives p n bare (inr h) = no_boot p.boot n bare.boot h
 
-pub bare_none : (p : SessionState) (d : Device) (world : Components) (told : Told) (living : List ℕ) → Stands p d world told living → IsBare p → living ≡ []
+pub bare_none : (p : SessionState) (d : Device) (world : Components) (told : Told) (living : List ℕ) → IsStateOf p d world told living → IsBare p → living ≡ []
 bare_none p d world told living s bare = empty living (λ n h. none_lives p n bare ((s.children n).0 h))
 
 pub between_bare : (p : SessionState) (d : Device) (world : Components) (told : Told) (living : List ℕ) → IsBetween p d world told living → IsBare p
@@ -128,7 +128,7 @@ stopped_none w none = ap (λ (ps : List ComponentState). not (list_any (λ p. no
 pub orderly_none : (w : Components) → w.parts ≡ [] → IsOrderly w
 orderly_none w none = record {
   sound = subst (λ (ps : List ComponentState). AreSound ps) (sym none) (λ k p there. absurd cc);
-  differ = subst (λ (ps : List ComponentState). Differ (living_numbers ps)) (sym none) tt;
+  differ = subst (λ (ps : List ComponentState). AreDistinct (living_numbers ps)) (sym none) tt;
   names = subst (λ (ps : List ComponentState). HaveOwnNames ps) (sym none) (λ j k p q at_first at_last same. absurd cc);
 }
 
@@ -137,11 +137,11 @@ pub run_standing_none : (d : Device) (w : Components) → w.parts ≡ [] → Run
 run_standing_none d w none = run_none d w (stopped_none w none)
 
 -- a moment brings none
-none_there : (p : SessionState) (d : Device) (world : Components) (told : Told) (living : List ℕ) → Stands p d world told living → world.parts ≡ [] →
+none_there : (p : SessionState) (d : Device) (world : Components) (told : Told) (living : List ℕ) → IsStateOf p d world told living → world.parts ≡ [] →
     p.world.parts ≡ []
 none_there p d world told living s none = ap (λ (w : Components). w.parts) s.world_is ∙ none
 
-pub none_stopped : (p : SessionState) (d : Device) (world : Components) (told : Told) (living : List ℕ) → Stands p d world told living → world.parts ≡ [] →
+pub none_stopped : (p : SessionState) (d : Device) (world : Components) (told : Told) (living : List ℕ) → IsStateOf p d world told living → world.parts ≡ [] →
     is_stopped p.world ≡ true
 none_stopped p d world told living s none = stopped_none p.world (none_there p d world told living s none)
 
@@ -168,8 +168,8 @@ module _ (p : SessionState) (d : Device) (world : Components) (told : Told) (liv
     cut = o.cut;
   }
 
-  pub front_returned : IsAtBootStage p d world told living → IsOrderly world → d.pending ≡ None → IsReturned p d world told living
-  front_returned f orderly none =
+  pub stage_returned : IsAtBootStage p d world told living → IsOrderly world → d.pending ≡ None → IsReturned p d world told living
+  stage_returned f orderly none =
       let still = f.between.still in
       record {
         stands = f.between.stands;
@@ -215,7 +215,7 @@ module _ (p : SessionState) (d : Device) (world : Components) (told : Told) (liv
     )
 
     pub returned_shut : is_stopped p.world ≡ true → IsShut p
-    returned_shut stopped = record { stopped = stopped; told = r.quiet.told; boot = r.boot; boot_end = r.boot_end; over = r.over; cut = r.cut }
+    returned_shut stopped = record { stopped = stopped; owes_none = r.quiet.owes_none; boot = r.boot; boot_end = r.boot_end; over = r.over; cut = r.cut }
 
     -- all may be stopped
     pub returned_stops : p.serves ≡ false → MayStop p d world told living
@@ -225,7 +225,7 @@ module _ (p : SessionState) (d : Device) (world : Components) (told : Told) (liv
           (sym (ap (λ (x : Device). (duty_of x).phase) r.stands.device_is ∙ idle_phase d r.idle_is))
           (λ on. absurd (never p.serves serves on));
       orderly = r.orderly;
-      owed = r.quiet.told;
+      owed = r.quiet.owes_none;
       boot = r.boot;
       boot_end = r.boot_end;
       over = r.over;
@@ -234,7 +234,7 @@ module _ (p : SessionState) (d : Device) (world : Components) (told : Told) (liv
 
   -- once all were
   pub stopped_shut : HasStopped p d world told living → IsShut p
-  stopped_shut s = record { stopped = s.stopped; told = s.quiet.told; boot = s.bare.boot; boot_end = s.boot_end; over = s.over; cut = s.cut }
+  stopped_shut s = record { stopped = s.stopped; owes_none = s.quiet.owes_none; boot = s.bare.boot; boot_end = s.boot_end; over = s.over; cut = s.cut }
 
 -- the acceptance was recorded, and the call gives up
 pub accepted_may : (p : SessionState) (d : Device) (world : Components) (told : Told) (living : List ℕ) (plan : Plan) → IsOpen p d world told living →
@@ -258,10 +258,10 @@ accepted_may p d world told living plan o orderly =
 
 -- ---- nothing is done from there
 
-pub front_shut : (p : SessionState) (d : Device) (world : Components) (told : Told) (living : List ℕ) → IsAtBootStage p d world told living → IsShut p
-front_shut p d world told living f = record {
+pub stage_shut : (p : SessionState) (d : Device) (world : Components) (told : Told) (living : List ℕ) → IsAtBootStage p d world told living → IsShut p
+stage_shut p d world told living f = record {
   stopped = f.between.still.stopped;
-  told = f.between.still.quiet.told;
+  owes_none = f.between.still.quiet.owes_none;
   boot = f.between.boot;
   boot_end = f.between.boot_end;
   over = f.over;
@@ -277,7 +277,7 @@ shut_ends p status rose s other = record {
   bare = shut_bare p s;
   stopped = λ stays. s.stopped;
   cut = λ is. absurd (never p.cut s.cut is);
-  told = λ closed. s.told;
+  owes_none = λ closed. s.owes_none;
   recorded = inl s.boot_end;
   restarts = λ is. absurd (never (is_restart status) other is);
   over = λ is. absurd (never p.over s.over is);
@@ -299,7 +299,7 @@ restart_ends p d world told living status again b over restarts answers = record
   bare = between_bare p d world told living b;
   stopped = λ stays. b.still.stopped;
   cut = λ is. absurd (never p.cut b.still.cut is);
-  told = λ closed. b.still.quiet.told;
+  owes_none = λ closed. b.still.quiet.owes_none;
   recorded = inl b.boot_end;
   restarts = λ is. over;
   over = λ is. ends answers;
@@ -311,13 +311,13 @@ restart_ends p d world told living status again b over restarts answers = record
 
 -- ---- what was taken before
 
--- the same place, in which a document was taken exactly where one is pending
+-- the same state, in which a document was taken exactly where one is pending
 abbrev pub untaken : SessionState → SessionState
 untaken p = record p { taken = is_some p.device.pending }
 
-pub untaken_front : (p : SessionState) (d : Device) (world : Components) (told : Told) (living : List ℕ) → IsAtBootStage p d world told living →
+pub untaken_stage : (p : SessionState) (d : Device) (world : Components) (told : Told) (living : List ℕ) → IsAtBootStage p d world told living →
     IsAtBootStage (untaken p) d world told living
-untaken_front p d world told living f =
+untaken_stage p d world told living f =
     let s = f.between.stands in
     let still = f.between.still in
     record {

@@ -7,16 +7,16 @@ use Rattle.histories.specs.Phases.{duty_of}
 use Rattle.histories.specs.States.{state_after}
 use Rattle.histories.specs.Waits.{has_three}
 use Rattle.session_boots.specs.Lines.{lines_of}
-use Rattle.session_boots.proofs.Told.{none_at, nothing_told}
+use Rattle.session_boots.proofs.Told.{none_at, nothing_printed}
 use Rattle.session_transitions.proofs.Policies.{breaks_activating}
 use Rattle.session_rollout.proofs.Joining.{cut_off, joined}
 use Rattle.session_rollout.proofs.Leaving.{driven_on}
 use Rattle.session_rollout.proofs.Ways.{way_broken}
-use Rattle.session_rollout.proofs.failing.turn_back.Goals as goal
+use Rattle.session_rollout.proofs.failing.go_back.Goals as goal
 
 pub begin_rollback-requires-clause-may : goal.begin_rollback-requires-clause-may
 begin_rollback-requires-clause-may g c =
-    let q = c.requires.placed in
+    let q = c.requires.from_state in
     breaks_activating (activating_device c.args.state) c.requires.held.0.0.sound c.requires.held.1
     (ap (λ (x : Device). has_three (duty_of x).counts) (sym q.1.comes.stands.device_is) ∙ q.1.counts) c.requires.policy
 
@@ -25,9 +25,9 @@ stop_and_go_back-requires-clause-ready g c =
     way_broken c.args.backs.now (g.S.Supervise.coming c.args.ready) (activating_device c.args.state) (broken_device c.in-Ok.broke) c.in-Ok.ensures.breaks
     c.requires.ready
 
-pub stop_and_go_back-requires-clause-placed : goal.stop_and_go_back-requires-clause-placed
-stop_and_go_back-requires-clause-placed g c =
-    let q = c.requires.placed in
+pub stop_and_go_back-requires-clause-from_state : goal.stop_and_go_back-requires-clause-from_state
+stop_and_go_back-requires-clause-from_state g c =
+    let q = c.requires.from_state in
     let told = Listed g.R.Runner.list g.R.Runner.told g.R.Runner.asked c.args.runner.now in
     let t = c.in-Ok.ensures.standing q.0 (g.S.Supervise.world c.args.supervisor.now) told (g.R.Runner.living c.args.runner.now) q.1 in
     (state_after q.0 t.0, t.3)
@@ -41,16 +41,16 @@ returns-in-Ok-clause-course g c = λ p from.
     told.list told.list last.list
     (g.K.Sink.held c.args.sink.now) (g.K.Sink.held c.args.sink.now) (g.K.Sink.held c.stop_and_go_back.new.sink) p t.0 c.stop_and_go_back.result _
     t.1
-    (nothing_told (g.K.Sink.held c.args.sink.now) (lines_of p.device (records_of t.0)) t.2)
+    (nothing_printed (g.K.Sink.held c.args.sink.now) (lines_of p.device (records_of t.0)) t.2)
     (driven_on (g.S.Supervise.world c.stop_and_go_back.new.supervisor) last (g.R.Runner.living c.stop_and_go_back.new.runner) t.0)
     (c.stop_and_go_back.ensures.course (state_after p t.0) t.3)
 
 pub kill_all-requires : goal.kill_all-requires
 kill_all-requires g c =
-    let q = c.requires.placed in
+    let q = c.requires.from_state in
     let told = Listed g.R.Runner.list g.R.Runner.told g.R.Runner.asked c.args.runner.now in
     let t = c.in-Err.ensures.standing q.0 (g.S.Supervise.world c.args.supervisor.now) told (g.R.Runner.living c.args.runner.now) q.1 in
-    record { placed = (state_after q.0 t.0, t.4) }
+    record { from_state = (state_after q.0 t.0, t.4) }
 
 pub returns-in-Err-clause-course : goal.returns-in-Err-clause-course
 returns-in-Err-clause-course g c = λ p from.

@@ -12,7 +12,7 @@ use Rattle.device.specs.Devices.{Device}
 use Rattle.step_runner.specs.Entries.{Told}
 use Rattle.components.specs.Components.{Components, owner}
 use Rattle.components.specs.Turns.{owes}
-use Rattle.histories.specs.Courses.{IsBare, IsEnd, Stands, gives_up, is_restart, leaves_open}
+use Rattle.histories.specs.Courses.{IsBare, IsEnd, IsStateOf, gives_up, is_restart, leaves_open}
 use Rattle.histories.specs.States.{SessionState, state_after}
 use Rattle.histories.specs.Phases.{Generation, is_shutting_down}
 use Rattle.law_serving.proofs.Records.{pending_idle}
@@ -24,14 +24,14 @@ use Rattle.session_transitions.specs.Fails.{IsGivenUp}
 use Rattle.session_transitions.specs.Kills.{KeepsRest}
 use Rattle.session_transitions.proofs.Closing.{no_other}
 use Rattle.session.specs.Parts.{IsReturned}
-use Rattle.session.proofs.Places.{bare_none}
+use Rattle.session.proofs.States.{bare_none}
 use Rattle.session_serving.proofs.Hearing.{Hears}
 
 clash : (b : Bool) → b ≡ true → b ≡ false → ⊥
 clash b on off = absurd (false≢true (sym off ∙ on))
 
 module _ (p : SessionState) (d : Device) (world : Components) (told : Told) (living : List ℕ) where
-  given_up_at : Stands p d world told living → IsOrderly p.world → p.boot ≡ None → p.boot_end ≡ None → p.over ≡ false → p.cut ≡ false →
+  given_up_at : IsStateOf p d world told living → IsOrderly p.world → p.boot ≡ None → p.boot_end ≡ None → p.over ≡ false → p.cut ≡ false →
       IsGivenUp p world told living
   given_up_at s orderly boot boot_end over cut = record {
     moment = sym (ap (λ (w : Components). w.moment) s.world_is);
@@ -73,14 +73,14 @@ not_restart statuses.Edge gives restarts = false≢true restarts
 not_restart statuses.Memory gives restarts = false≢true restarts
 not_restart s gives restarts = false≢true gives
 
--- all children were killed where nothing was open and no failure is still to be told
+-- all children were killed where nothing was open and no failure is still owed
 pub killed_end : (p q : SessionState) (status : Status) (rose : Bool) → KeepsRest p q → IsBare q → list_any owes p.world.parts ≡ false → p.boot_end ≡ None →
     p.over ≡ false → gives_up status ≡ true → IsEnd q status rose
 killed_end p q status rose keeps bare told boot_end over gives = record {
   bare = bare;
   stopped = λ stays. absurd (clash (gives_up status) gives stays);
   cut = λ is. gives;
-  told = λ closed. keeps.owed ∙ told;
+  owes_none = λ closed. keeps.owed ∙ told;
   recorded = inl (keeps.boot_end ∙ boot_end);
   restarts = λ is. absurd (not_restart status gives is);
   over = λ is. absurd (clash q.over is (keeps.over ∙ over));
@@ -96,7 +96,7 @@ stopped_end p d world told living status s other = record {
   bare = s.bare;
   stopped = λ stays. s.stopped;
   cut = λ is. absurd (clash p.cut is s.cut);
-  told = λ closed. s.quiet.told;
+  owes_none = λ closed. s.quiet.owes_none;
   recorded = inl s.boot_end;
   restarts = λ is. absurd (clash (is_restart status) is other);
   over = λ is. absurd (clash p.over is s.over);
@@ -135,7 +135,7 @@ edge_again p status rose is e = record {
   bare = e.bare;
   stopped = λ stays. absurd (false≢true (sym stays));
   cut = λ on. refl;
-  told = λ closed. absurd (false≢true (sym closed));
+  owes_none = λ closed. absurd (false≢true (sym closed));
   recorded = recorded_on status p.boot_end rose is e.recorded;
   restarts = λ on. absurd (false≢true on);
   over = λ on. inr refl;

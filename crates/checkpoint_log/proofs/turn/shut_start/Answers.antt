@@ -3,8 +3,8 @@ use Rattle.disk_model.specs.Moments.{then_same}
 use Rattle.gate_log.proofs.Walk.{first_of}
 use Rattle.checkpoint_log.proofs.Opened.{not_shut}
 use Rattle.checkpoint_log.proofs.Turning.{shut_moments}
-use Rattle.checkpoint_log.proofs.turn.shut_front.Goals as goal
-use Rattle.checkpoint_log.proofs.turn.shut_front.Goals.{else-n-eq1-via-then-n-eq1+else-first-eq0, else-n-eq1-via-else-n-eq1}
+use Rattle.checkpoint_log.proofs.turn.shut_start.Goals as goal
+use Rattle.checkpoint_log.proofs.turn.shut_start.Goals.{else-n-eq1-via-then-n-eq1+else-first-eq0, else-n-eq1-via-else-n-eq1}
 
 pub returns-then-first-eq0-clause-shut : goal.returns-then-first-eq0-clause-shut
 returns-then-first-eq0-clause-shut g c told =
