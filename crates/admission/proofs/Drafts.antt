@@ -3,14 +3,9 @@ use Rattle.std.proofs.Common.{◌≡◌, ℕ, Bool, true, false, List, [], ◌�
 use Rattle.std.specs.Prelude.{◌&&◌, Option, Some, None, IsSome, find, option_map}
 use Rattle.std.specs.Option.{option_or, IsSomeAnd}
 use Rattle.std.specs.List.{AllByRecursion, AllZip, Contains, IsDistinct}
-use Rattle.std.specs.List.Sorted.{IsStrictlySortedBy}
-use Rattle.std.specs.Ordering.{nat_cmp, is_eq}
-use Rattle.std.specs.Cmp.Lexicographic.{slice_cmp}
 use Rattle.std.specs.Str.{bytes_eq}
-use Rattle.std.specs.declared.cmp.Ordering.TheVariants.{Less}
 use Rattle.std.proofs.lemmas.Bool.{false≢true}
 use Rattle.std.proofs.lemmas.List.Elements.{All-contains, All-from_recursion}
-use Rattle.std.proofs.lemmas.Map.Text.{is_eq-slice_cmp}
 use Rattle.std.proofs.lemmas.Slice.Eq.{bytes_eq-Decides}
 use Rattle.nuc_base.specs.Names.{IsName}
 use Rattle.npm_ranges.specs.Versions.{IsVersion}
@@ -30,7 +25,8 @@ use Rattle.deployment_doc.specs.declared.document.Root.{Root}
 use Rattle.library_core.specs.Gathered.{KeepBytes}
 use Rattle.device.specs.Devices.{Device}
 use Rattle.device.specs.Lawful.{MayAccept}
-use Rattle.device.specs.Plans.{AreItems, HasRecipe, IsHeldFor, AreRising, item_name}
+use Rattle.device.specs.Plans.{AreItems, HasRecipe, IsHeldFor, AreRising}
+use Rattle.deploy_state.proofs.SameItem.{same_item}
 use Rattle.plan_core.specs.Laws.{FilledIsAllowed}
 use Rattle.plan_core.specs.Plans.{IsPlanned}
 use Rattle.plan_core.specs.Ready.{MayPlan}
@@ -42,36 +38,6 @@ use Rattle.artifact_store.specs.Paths.{IsNamed, IsNamedDraft}
 use Rattle.artifact_store.specs.Staged.{HasItsFiles, HasKeptFile, KeepsFiles}
 use Rattle.admission.specs.Drafts.{MayStage}
 use Rattle.admission.proofs.Sample.{sample, sample_item, sample_fills, sample_names, files_same}
-
--- ---- items of one name
-
-less_self : (n : List ℕ) → slice_cmp nat_cmp n n ≡ Less → ⊥
-less_self n less = false≢true (sym (ap is_eq less) ∙ is_eq-slice_cmp n n ∙ (bytes_eq-Decides n n).1 refl)
-
-below_all : (n : List ℕ) (items : List Item) → AllByRecursion (λ m. slice_cmp nat_cmp n m ≡ Less) (map item_name items) → (i : Item) → Contains items i →
-    slice_cmp nat_cmp n i.name ≡ Less
-below_all n [] less i has = absurd (in_nil i has)
-below_all n (x ∷ items) less i has = elim (in_cons x items i has) [
-  | inl here ↦ subst (λ (y : Item). slice_cmp nat_cmp n y.name ≡ Less) here less.0
-  | inr there ↦ below_all n items less.1 i there
-]
-
--- where names rise, two items of one name are one
-same_item : (items : List Item) → AreRising (map item_name items) → (a b : Item) → Contains items a → Contains items b → a.name ≡ b.name → a ≡ b
-unfolding IsStrictlySortedBy
-same_item [] rise a b i j same = absurd (in_nil a i)
-same_item (x ∷ items) rise a b i j same = elim (in_cons x items a i) [
-  | inl e ↦ elim (in_cons x items b j) [
-    | inl f ↦ sym e ∙ f
-    | inr there ↦ absurd (less_self b.name (subst (λ (n : List ℕ). slice_cmp nat_cmp n b.name ≡ Less) (ap item_name e ∙ same)
-        (below_all x.name items rise.0 b there)))
-  ]
-  | inr here ↦ elim (in_cons x items b j) [
-    | inl f ↦ absurd (less_self a.name (subst (λ (n : List ℕ). slice_cmp nat_cmp n a.name ≡ Less) (ap item_name f ∙ sym same)
-        (below_all x.name items rise.0 a here)))
-    | inr there ↦ same_item items rise.1 a b here there same
-  ]
-]
 
 -- ---- what is kept of a file
 

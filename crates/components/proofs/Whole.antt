@@ -187,7 +187,7 @@ twice (suc k) f g (p ∷ ps) = ap (λ (qs : List ComponentState). p ∷ qs) (twi
 
 -- ---- with the marks of an error
 
-abbrev firsts : Flagged → List ComponentState
+abbrev pub firsts : Flagged → List ComponentState
 firsts [] = []
 firsts (f ∷ fs) = f.0 ∷ firsts fs
 
@@ -195,15 +195,15 @@ firsts_grown : (all fs : Flagged) → firsts (grown all fs) ≡ firsts fs
 firsts_grown all [] = refl
 firsts_grown all (f ∷ fs) = ap (λ (ps : List ComponentState). f.0 ∷ ps) (firsts_grown all fs)
 
-firsts_reaching : (n : ℕ) (fs : Flagged) → firsts (reaching n fs) ≡ firsts fs
+pub firsts_reaching : (n : ℕ) (fs : Flagged) → firsts (reaching n fs) ≡ firsts fs
 firsts_reaching zero fs = refl
 firsts_reaching (suc n) fs = firsts_reaching n (grown fs fs) ∙ firsts_grown fs fs
 
-firsts_flagged : (test : ComponentState → Bool) (ps : List ComponentState) → firsts (flagged test ps) ≡ ps
+pub firsts_flagged : (test : ComponentState → Bool) (ps : List ComponentState) → firsts (flagged test ps) ≡ ps
 firsts_flagged test [] = refl
 firsts_flagged test (p ∷ ps) = ap (λ (qs : List ComponentState). p ∷ qs) (firsts_flagged test ps)
 
-firsts_at : (k : ℕ) (ps : List ComponentState) → firsts (flagged_at k ps) ≡ ps
+pub firsts_at : (k : ℕ) (ps : List ComponentState) → firsts (flagged_at k ps) ≡ ps
 firsts_at k [] = refl
 firsts_at zero (p ∷ ps) = ap (λ (qs : List ComponentState). p ∷ qs) (firsts_flagged (λ q. false) ps)
 firsts_at (suc k) (p ∷ ps) = ap (λ (qs : List ComponentState). p ∷ qs) (firsts_at k ps)

@@ -9,3 +9,4 @@ pub mod Accepted
 pub mod FrontLengths
 pub mod Turning
 pub mod Siting
+pub mod SameItem

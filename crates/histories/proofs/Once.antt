@@ -13,15 +13,15 @@ use Rattle.histories.specs.Follows.{IsProper, MayFollow, MayTakeBy}
 use Rattle.histories.specs.Once.{TakesOnce}
 
 -- whether one was taken, behind these records
-abbrev taken_behind : Bool → List Record → Bool
+abbrev pub taken_behind : Bool → List Record → Bool
 taken_behind taken [] = taken
 taken_behind taken (r ∷ records) = taken_behind (taken || takes_document r) records
 
-behind_more : (taken : Bool) (records : List Record) (r : Record) → taken_behind taken (records ++ r ∷ []) ≡ taken_behind taken records || takes_document r
+pub behind_more : (taken : Bool) (records : List Record) (r : Record) → taken_behind taken (records ++ r ∷ []) ≡ taken_behind taken records || takes_document r
 behind_more taken [] r = refl
 behind_more taken (x ∷ records) r = behind_more (taken || takes_document x) records r
 
-once_more : (taken : Bool) (records : List Record) (r : Record) → (takes_document r ≡ true → taken_behind taken records ≡ false) → TakesOnce taken records →
+pub once_more : (taken : Bool) (records : List Record) (r : Record) → (takes_document r ≡ true → taken_behind taken records ≡ false) → TakesOnce taken records →
     TakesOnce taken (records ++ r ∷ [])
 once_more taken [] r first once = (first, tt)
 once_more taken (x ∷ records) r first once = (once.0, once_more (taken || takes_document x) records r first once.1)
@@ -55,7 +55,7 @@ cut_counts (seen.OnPath x b) p = record { serves = refl; taken = refl }
 cut_counts (seen.Ended n e l) p = record { serves = refl; taken = refl }
 cut_counts (seen.Elapsed l) p = record { serves = refl; taken = refl }
 
-serves_on : (p : SessionState) (e : TraceEvent) → (leaves p e).serves ≡ p.serves
+pub serves_on : (p : SessionState) (e : TraceEvent) → (leaves p e).serves ≡ p.serves
 serves_on p (Ran e k s) = refl
 serves_on p (Booted e m) = (booted_counts e.seen m p).serves
 serves_on p (WaitElapsed e) = refl
@@ -81,6 +81,36 @@ taken_on b p (Heard k) h is = is
 taken_on b p (InboxAsked a) h is = is
 taken_on b p (Changed f c d) h is = is
 taken_on b p StopsAll h is = is
+
+-- ---- what a state keeps of its inbox
+
+pub record IsSameInbox (p q : SessionState) : Type 0 where
+  pub serves : q.serves ≡ p.serves
+  pub turns : q.turns ≡ p.turns
+  pub answer : q.answer ≡ p.answer
+
+pub untouched : (p : SessionState) → IsSameInbox p p
+untouched p = record { serves = refl; turns = refl; answer = refl }
+
+pub booted_inbox : (s : Seen) (m : Prepared) (p : SessionState) → IsSameInbox p (booted s m p)
+booted_inbox (seen.Started n c) m p = record { serves = refl; turns = refl; answer = refl }
+booted_inbox (seen.Refused c) m p = record { serves = refl; turns = refl; answer = refl }
+booted_inbox (seen.Killed n) m p = record { serves = refl; turns = refl; answer = refl }
+booted_inbox (seen.Exists x true) m p = record { serves = refl; turns = refl; answer = refl }
+booted_inbox (seen.Exists x false) m p = untouched p
+booted_inbox (seen.OnPath x true) m p = record { serves = refl; turns = refl; answer = refl }
+booted_inbox (seen.OnPath x false) m p = untouched p
+booted_inbox (seen.Ended n e l) m p = record { serves = refl; turns = refl; answer = refl }
+booted_inbox (seen.Elapsed l) m p = untouched p
+
+pub cut_inbox : (s : Seen) (p : SessionState) → IsSameInbox p (cut_off s p)
+cut_inbox (seen.Started n c) p = record { serves = refl; turns = refl; answer = refl }
+cut_inbox (seen.Refused c) p = record { serves = refl; turns = refl; answer = refl }
+cut_inbox (seen.Killed n) p = record { serves = refl; turns = refl; answer = refl }
+cut_inbox (seen.Exists x b) p = record { serves = refl; turns = refl; answer = refl }
+cut_inbox (seen.OnPath x b) p = record { serves = refl; turns = refl; answer = refl }
+cut_inbox (seen.Ended n e l) p = record { serves = refl; turns = refl; answer = refl }
+cut_inbox (seen.Elapsed l) p = record { serves = refl; turns = refl; answer = refl }
 
 -- ---- the newest record
 

@@ -18,12 +18,13 @@ use Rattle.components.specs.Changes.{Coming, coming_again, coming_for, counted, 
 use Rattle.components.specs.Changes.{newcomers, placed, replanned, standing, staying, with_newcomers, with_texts, changed_to}
 use Rattle.components.specs.Fitted.{Fitted, is_before, is_same_item, name_of}
 use Rattle.components.specs.Lives.{lived, lived_at, drops_at, replaced}
-use Rattle.components.specs.Marks.{Flagged, flagged, flagged_at, grown, marked, may_replan, may_restart, reaching, restarted}
+use Rattle.components.specs.Marks.{Flagged, flagged, flagged_at, marked, may_replan, may_restart, reaching, restarted}
 use Rattle.components.specs.Rows.{completed_from, is_spared_by, owed_after, succeeds_from}
 use Rattle.components.specs.Turns.{owes}
 use Rattle.components.specs.Components.{Components, ComponentState, changed_at, is_again, is_gone, is_over, component_name, place_from, stops_for_good}
 use Rattle.components.specs.Components.{under_way}
 use Rattle.components.proofs.Lived.{lived_none, lived_row, settled_part}
+use Rattle.components.proofs.Whole.{firsts, firsts_at, firsts_flagged, firsts_reaching}
 use Rattle.law_histories.proofs.Facts.{no_some, some_same}
 
 -- ---- debts
@@ -87,27 +88,6 @@ each_same v g same [] = refl
 each_same v g same (p ∷ ps) = ap (λ x. x ∷ map v (map g ps)) (same p) ∙ ap (λ xs. v p ∷ xs) (each_same v g same ps)
 
 -- ---- who reaches another
-
-abbrev firsts : Flagged → List ComponentState
-firsts [] = []
-firsts (f ∷ fs) = f.0 ∷ firsts fs
-
-firsts_grown : (all fs : Flagged) → firsts (grown all fs) ≡ firsts fs
-firsts_grown all [] = refl
-firsts_grown all (f ∷ fs) = ap (λ (ps : List ComponentState). f.0 ∷ ps) (firsts_grown all fs)
-
-firsts_reaching : (n : ℕ) (fs : Flagged) → firsts (reaching n fs) ≡ firsts fs
-firsts_reaching zero fs = refl
-firsts_reaching (suc n) fs = firsts_reaching n (grown fs fs) ∙ firsts_grown fs fs
-
-firsts_flagged : (test : ComponentState → Bool) (ps : List ComponentState) → firsts (flagged test ps) ≡ ps
-firsts_flagged test [] = refl
-firsts_flagged test (p ∷ ps) = ap (λ (qs : List ComponentState). p ∷ qs) (firsts_flagged test ps)
-
-firsts_at : (k : ℕ) (ps : List ComponentState) → firsts (flagged_at k ps) ≡ ps
-firsts_at k [] = refl
-firsts_at zero (p ∷ ps) = ap (λ (qs : List ComponentState). p ∷ qs) (firsts_flagged (λ q. false) ps)
-firsts_at (suc k) (p ∷ ps) = ap (λ (qs : List ComponentState). p ∷ qs) (firsts_at k ps)
 
 marked_debts : (may : ComponentState → Bool) (fs : Flagged) → debts (marked may fs) ≡ debts (firsts fs)
 marked_debts may [] = refl

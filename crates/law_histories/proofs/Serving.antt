@@ -6,73 +6,13 @@ use Rattle.std.proofs.Common.{◌≡◌, ◌∙◌, refl, sym, ap, subst, arith}
 use Rattle.std.proofs.lemmas.Bool.{false≢true}
 use Rattle.records.specs.Stored.{Record, Accepted}
 use Rattle.step_runner.specs.declared.entries.Seen.{Seen}
-use Rattle.step_runner.specs.declared.entries.Seen.TheVariants as seen
-use Rattle.components.specs.declared.kinds.Prepared.{Prepared}
 use Rattle.histories.specs.TraceEvents.{Answer, TraceEvent, Ran, Booted, WaitElapsed, KilledOnAbort, Recorded, Moved, ReadClock, Heard, InboxAsked, Changed}
 use Rattle.histories.specs.TraceEvents.{StopsAll, is_document, records_of}
 use Rattle.histories.specs.States.{SessionState, booted, cut_off, is_wait, leaves, state_after, takes_document}
 use Rattle.histories.specs.Follows.{IsProper, MayFollow, MayTakeBy}
 use Rattle.histories.specs.Once.{TakesOnce}
+use Rattle.histories.proofs.Once.{behind_more, booted_inbox, cut_inbox, once_more, serves_on, taken_behind}
 use Rattle.law_histories.specs.Serving.{IsUnasked}
-
--- ---- along records
-
--- whether one was taken, behind these records
-abbrev taken_behind : Bool → List Record → Bool
-taken_behind taken [] = taken
-taken_behind taken (r ∷ records) = taken_behind (taken || takes_document r) records
-
-behind_more : (taken : Bool) (records : List Record) (r : Record) → taken_behind taken (records ++ r ∷ []) ≡ taken_behind taken records || takes_document r
-behind_more taken [] r = refl
-behind_more taken (x ∷ records) r = behind_more (taken || takes_document x) records r
-
-once_more : (taken : Bool) (records : List Record) (r : Record) → (takes_document r ≡ true → taken_behind taken records ≡ false) → TakesOnce taken records →
-    TakesOnce taken (records ++ r ∷ [])
-once_more taken [] r first once = (first, tt)
-once_more taken (x ∷ records) r first once = (once.0, once_more (taken || takes_document x) records r first once.1)
-
--- ---- what a state keeps of its inbox
-
-record IsSameInbox (p q : SessionState) : Type 0 where
-  serves : q.serves ≡ p.serves
-  turns : q.turns ≡ p.turns
-  answer : q.answer ≡ p.answer
-
-untouched : (p : SessionState) → IsSameInbox p p
-untouched p = record { serves = refl; turns = refl; answer = refl }
-
-booted_inbox : (s : Seen) (m : Prepared) (p : SessionState) → IsSameInbox p (booted s m p)
-booted_inbox (seen.Started n c) m p = record { serves = refl; turns = refl; answer = refl }
-booted_inbox (seen.Refused c) m p = record { serves = refl; turns = refl; answer = refl }
-booted_inbox (seen.Killed n) m p = record { serves = refl; turns = refl; answer = refl }
-booted_inbox (seen.Exists x true) m p = record { serves = refl; turns = refl; answer = refl }
-booted_inbox (seen.Exists x false) m p = untouched p
-booted_inbox (seen.OnPath x true) m p = record { serves = refl; turns = refl; answer = refl }
-booted_inbox (seen.OnPath x false) m p = untouched p
-booted_inbox (seen.Ended n e l) m p = record { serves = refl; turns = refl; answer = refl }
-booted_inbox (seen.Elapsed l) m p = untouched p
-
-cut_inbox : (s : Seen) (p : SessionState) → IsSameInbox p (cut_off s p)
-cut_inbox (seen.Started n c) p = record { serves = refl; turns = refl; answer = refl }
-cut_inbox (seen.Refused c) p = record { serves = refl; turns = refl; answer = refl }
-cut_inbox (seen.Killed n) p = record { serves = refl; turns = refl; answer = refl }
-cut_inbox (seen.Exists x b) p = record { serves = refl; turns = refl; answer = refl }
-cut_inbox (seen.OnPath x b) p = record { serves = refl; turns = refl; answer = refl }
-cut_inbox (seen.Ended n e l) p = record { serves = refl; turns = refl; answer = refl }
-cut_inbox (seen.Elapsed l) p = record { serves = refl; turns = refl; answer = refl }
-
-serves_on : (p : SessionState) (e : TraceEvent) → (leaves p e).serves ≡ p.serves
-serves_on p (Ran e k s) = refl
-serves_on p (Booted e m) = (booted_inbox e.seen m p).serves
-serves_on p (WaitElapsed e) = refl
-serves_on p (KilledOnAbort e) = (cut_inbox e.seen p).serves
-serves_on p (Recorded r) = refl
-serves_on p (Moved k e) = refl
-serves_on p (ReadClock m) = refl
-serves_on p (Heard k) = refl
-serves_on p (InboxAsked a) = refl
-serves_on p (Changed f c b) = refl
-serves_on p StopsAll = refl
 
 -- ---- how often it may be asked
 

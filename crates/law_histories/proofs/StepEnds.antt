@@ -153,7 +153,8 @@ at_owed [] k name f is = no_some (name, Some f) is
 at_owed (p ∷ ps) zero name f is = let same = some_same (debt p) (name, Some f) is in (ap (λ (x : Debt). x.0) same, ap (λ (x : Debt). x.1) same)
 at_owed (p ∷ ps) (suc k) name f is = at_owed ps k name f is
 
-at_owes : (parts : List ComponentState) (k : ℕ) (name : List ℕ) (f : Step × Exit) → Named parts k name → At k (λ q. q.owed ≡ Some f) parts → Owes parts k name f
+pub at_owes : (parts : List ComponentState) (k : ℕ) (name : List ℕ) (f : Step × Exit) → Named parts k name → At k (λ q. q.owed ≡ Some f) parts →
+    Owes parts k name f
 at_owes parts k name f named at = by (slice_get parts k) refl at
   where
     by : (o : Option ComponentState) → slice_get parts k ≡ o → IsSomeAnd o (λ q. q.owed ≡ Some f) → Owes parts k name f
@@ -204,7 +205,7 @@ module _ (p : SessionState) (h : List TraceEvent) where
         λ j other g owed. (ran_debt d q entry.seen k t j other g may owed).0 ∙ sym v.0,
       )
 
-booted_world : (s : Seen) (m : Prepared) (q : SessionState) → (booted s m q).world ≡ q.world
+pub booted_world : (s : Seen) (m : Prepared) (q : SessionState) → (booted s m q).world ≡ q.world
 booted_world (seen.Exists x true) m q = refl
 booted_world (seen.Exists x false) m q = refl
 booted_world (seen.OnPath x true) m q = refl
@@ -214,7 +215,7 @@ booted_world s m q = refl
 abbrev cut_by : ℕ → Components → Option (ℕ × Step) → Components
 cut_by n w o = elim o [ None ↦ w | Some x ↦ child_gone x.0 n w ]
 
-cut_debts : (s : Seen) (q : SessionState) → debts (cut_off s q).world.parts ≡ debts q.world.parts
+pub cut_debts : (s : Seen) (q : SessionState) → debts (cut_off s q).world.parts ≡ debts q.world.parts
 cut_debts (seen.Killed n) q = by (owner n q.world.parts)
   where
     by : (o : Option (ℕ × Step)) → debts (cut_by n q.world o).parts ≡ debts q.world.parts
@@ -222,7 +223,7 @@ cut_debts (seen.Killed n) q = by (owner n q.world.parts)
     by (Some x) = changed_same debt (without_child n) (λ p. refl) x.0 q.world.parts
 cut_debts s q = refl
 
-abbrev told_by : Components → Option ℕ → Components
+abbrev pub told_by : Components → Option ℕ → Components
 told_by w o = elim o [ None ↦ w | Some k ↦ heard_at k w ]
 
 -- a failure that is recorded was the only one

@@ -16,20 +16,20 @@ use Rattle.device.specs.Lawful.{boot_ended, count_failure}
 use Rattle.step_runner.specs.declared.entries.Seen.{Seen}
 use Rattle.step_runner.specs.declared.entries.Seen.TheVariants as seen
 use Rattle.components.specs.Changes.{leaving}
-use Rattle.components.specs.Components.{Components, ComponentState, At, changed_at, child_gone, component_name, owner, place_of, without_child}
-use Rattle.components.specs.Events.{heard_at}
+use Rattle.components.specs.Components.{Components, ComponentState, At, changed_at, component_name, place_of}
 use Rattle.components.specs.Turns.{owes}
 use Rattle.components.specs.declared.kinds.Prepared.{Prepared}
 use Rattle.histories.specs.Phases.{Duty, duty_in, duty_of, is_idle}
 use Rattle.histories.specs.TraceEvents.{TraceEvent, Ran, Booted, WaitElapsed, KilledOnAbort, Recorded, Moved, ReadClock, Heard, InboxAsked, Changed, StopsAll}
 use Rattle.histories.specs.TraceEvents.{records_of}
-use Rattle.histories.specs.States.{SessionState, booted, cut_off, state_after}
+use Rattle.histories.specs.States.{SessionState, state_after}
 use Rattle.histories.specs.Follows.{IsProper, MayBooted, MayFollow, MayRun, OwesBy}
 use Rattle.histories.proofs.Joined.{records-append}
-use Rattle.law_histories.proofs.Debts.{Debt, Named, Owes, changed_same, debt, debts, each_same, leaving_debt, none_owed, owes_named, place_named}
+use Rattle.law_histories.proofs.Debts.{Debt, Owes, debt, debts, each_same, leaving_debt, none_owed, place_named}
 use Rattle.law_histories.proofs.Duties.{duty_by}
 use Rattle.law_histories.proofs.Facts.{some_same}
 use Rattle.law_histories.proofs.Histories.{history_at, silent}
+use Rattle.law_histories.proofs.StepEnds.{at_owes, booted_world, cut_debts, told_by}
 use Rattle.law_reopening.specs.Failed.{FailuresComeFirst, is_start, starts}
 
 -- ---- who owes
@@ -46,14 +46,6 @@ owes_or_told zero (p ∷ ps) zero name f is = inr refl
 owes_or_told zero (p ∷ ps) (suc j) name f is = inl is
 owes_or_told (suc k) (p ∷ ps) zero name f is = inl is
 owes_or_told (suc k) (p ∷ ps) (suc j) name f is = elim (owes_or_told k ps j name f is) [ inl o ↦ inl o | inr e ↦ inr (ap suc e) ]
-
--- by its name
-owes_at : (parts : List ComponentState) (k : ℕ) (name : List ℕ) (f : Step × Exit) → Named parts k name → At k (λ q. q.owed ≡ Some f) parts → Owes parts k name f
-owes_at parts k name f named at = by (slice_get parts k) refl at
-  where
-    by : (o : Option ComponentState) → slice_get parts k ≡ o → IsSomeAnd o (λ q. q.owed ≡ Some f) → Owes parts k name f
-    by None there at = absurd at
-    by (Some q) there at = owes_named parts k name f q named there at
 
 owes_here : (ps : List ComponentState) (k : ℕ) (name : List ℕ) (f : Step × Exit) → At k (λ q. (component_name q ≡ name) × (q.owed ≡ Some f)) ps →
     Owes ps k name f
@@ -108,27 +100,6 @@ pending_busy d is idle = by d.pending is idle
 
 -- ---- one more event
 
-booted_world : (s : Seen) (m : Prepared) (q : SessionState) → (booted s m q).world ≡ q.world
-booted_world (seen.Exists x true) m q = refl
-booted_world (seen.Exists x false) m q = refl
-booted_world (seen.OnPath x true) m q = refl
-booted_world (seen.OnPath x false) m q = refl
-booted_world s m q = refl
-
-abbrev cut_by : ℕ → Components → Option (ℕ × Step) → Components
-cut_by n w o = elim o [ None ↦ w | Some x ↦ child_gone x.0 n w ]
-
-cut_debts : (s : Seen) (q : SessionState) → debts (cut_off s q).world.parts ≡ debts q.world.parts
-cut_debts (seen.Killed n) q = by (owner n q.world.parts)
-  where
-    by : (o : Option (ℕ × Step)) → debts (cut_by n q.world o).parts ≡ debts q.world.parts
-    by None = refl
-    by (Some x) = changed_same debt (without_child n) (λ p. refl) x.0 q.world.parts
-cut_debts s q = refl
-
-abbrev told_by : Components → Option ℕ → Components
-told_by w o = elim o [ None ↦ w | Some k ↦ heard_at k w ]
-
 module _ (p : SessionState) (h : List TraceEvent) (k : ℕ) (name : List ℕ) (f : Step × Exit) where
   -- It is owed still; or this records it.
   abbrev Next : TraceEvent → Type 0
@@ -166,7 +137,7 @@ module _ (p : SessionState) (h : List TraceEvent) (k : ℕ) (name : List ℕ) (f
         where
           same : k ≡ i → Recorded (stored.StepFailed n s x) ≡ Recorded (stored.StepFailed name f.0 f.1)
           same e =
-              let here : Owes parts i n (s, x) = owes_at parts i n (s, x) (place_named i n parts place) owes_it in
+              let here : Owes parts i n (s, x) = at_owes parts i n (s, x) (place_named i n parts place) owes_it in
               let its : Owes parts i name f = subst (λ (m : ℕ). Owes parts m name f) e owed.0 in
               let one = one_debt parts i name n f (s, x) its here in
               ap (λ (m : List ℕ). Recorded (stored.StepFailed m s x)) one.0

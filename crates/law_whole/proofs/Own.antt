@@ -28,11 +28,12 @@ use Rattle.plan_core.specs.Requests.{wanted_of}
 use Rattle.plan_core.specs.Set.{chosen}
 use Rattle.plan_core.specs.Looks.{AreOf, IsOf}
 use Rattle.plan_core.proofs.Growing.{chosen_at, element}
+use Rattle.plan_core.proofs.Supplying.{candidate_name}
 use Rattle.law_whole.specs.Taking.{AsksTheSame}
 use Rattle.law_whole.specs.Whole.{AreWholeOn, IsItemOf, Whole, asked_of}
 use Rattle.law_whole.proofs.Bringing.{left_of, right_of, whole_set}
 use Rattle.law_whole.proofs.Choosing.{IsAt, at_place, chosen_here, inside, places, stands_at}
-use Rattle.law_whole.proofs.Rising.{candidate_name, zip_sorted}
+use Rattle.law_whole.proofs.Rising.{zip_sorted}
 use Rattle.law_whole.proofs.Transfer.{Beside, beside}
 
 -- ---- one candidate a name

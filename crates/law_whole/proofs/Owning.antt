@@ -14,11 +14,12 @@ use Rattle.device.specs.Sound.{AreItemsFor, IsSound}
 use Rattle.plan_core.specs.Looks.{AreOf}
 use Rattle.plan_core.specs.Requests.{wanted_of}
 use Rattle.plan_core.specs.Set.{chosen}
+use Rattle.plan_core.proofs.Supplying.{chosen_rise}
 use Rattle.law_whole.specs.Taking.{OwnSetIsChosen, OwnSetIsThere}
 use Rattle.law_whole.specs.Whole.{asked_of}
 use Rattle.law_whole.proofs.Bringing.{whole_set}
 use Rattle.law_whole.proofs.Own.{are_of}
-use Rattle.law_whole.proofs.Rising.{chosen_rise, one_named}
+use Rattle.law_whole.proofs.Rising.{one_named}
 use Rattle.law_whole.proofs.There.{own_valid}
 
 pub names_of : (d : Device) (o : Origin) → IsSound d → d.origin ≡ Some o → AreRising (map item_name d.set)

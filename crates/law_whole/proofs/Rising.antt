@@ -1,27 +1,17 @@
--- Names that rise: those of chosen candidates, and two lists in the order of their names.
-use Rattle.std.proofs.Common.{◌≡◌, ◌⊎◌, ℕ, zero, suc, ◌<◌, List, [], ◌∷◌, length, map, get_or, refl, sym, ap, subst, ◌∙◌, inl, inr, arith, nat_cmp}
-use Rattle.std.specs.Prelude.{Option, Some, None, slice_get}
-use Rattle.std.specs.List.{All, AllByRecursion, AllPairs, AllZip, Contains}
+-- Names that rise: items of one name, and two lists in the order of their names.
+use Rattle.std.proofs.Common.{◌≡◌, ◌⊎◌, ℕ, zero, List, [], ◌∷◌, map, sym, ap, subst, ◌∙◌, inl, inr, nat_cmp}
+use Rattle.std.specs.List.{AllByRecursion, AllZip, Contains}
 use Rattle.std.specs.List.Sorted.{IsStrictlySortedBy}
 use Rattle.std.specs.Ordering.{ordering_reverse}
 use Rattle.std.specs.Cmp.Lexicographic.{slice_cmp, nat_list_cmp_total}
 use Rattle.std.specs.declared.cmp.Ordering.TheVariants.{Less, Greater}
-use Rattle.std.proofs.lemmas.List.Elements.{All-contains, All-from_recursion, All-head, All-tail, recursion_from_All}
-use Rattle.std.proofs.lemmas.List.Kept.{AllPairs-from_increasing}
-use Rattle.std.proofs.lemmas.Option.{slice_get_within, slice_get_read, get_or_from_slice_get}
-use Rattle.nuc_base.proofs.Lists.{all_from_in, from_map, in_cons, in_here, in_map, in_nil, in_there}
-use Rattle.recipe_reader.specs.Members.{IsBefore, IsRising, Member, Need, member, members}
-use Rattle.recipe_reader.specs.Sets.{IsValid, name_in}
+use Rattle.std.proofs.lemmas.List.Elements.{All-contains, All-from_recursion}
+use Rattle.nuc_base.proofs.Lists.{in_cons, in_here, in_map, in_nil, in_there}
 use Rattle.recipe_reader.specs.declared.candidate.Candidate.{Candidate}
 use Rattle.records.specs.Stored.{Item}
 use Rattle.device.specs.Plans.{AreRising, item_name}
 use Rattle.plan_core.specs.Looks.{IsOf}
-use Rattle.plan_core.specs.Set.{chosen, with_candidate}
-use Rattle.plan_core.proofs.Growing.{chosen_at, element, some_below}
-use Rattle.law_whole.proofs.Choosing.{at_place, inside}
-
-abbrev pub candidate_name : Candidate → List ℕ
-candidate_name c = c.recipe.name
+use Rattle.plan_core.proofs.Supplying.{candidate_name}
 
 -- ---- names in order
 
@@ -106,67 +96,3 @@ zip_sorted (x ∷ xs) (y ∷ ys) first second f g =
             | inr j ↦ (o.0, j, o.2)
           ])),
     )
-
--- ---- the names of chosen candidates
-
-abbrev Ordered : List Candidate → List ℕ → Type 0
-Ordered cs ps = (q r : ℕ) (c e : Candidate) → Contains ps q → Contains ps r → q < r → slice_get cs q ≡ Some c → slice_get cs r ≡ Some e
-    → slice_cmp nat_cmp c.recipe.name e.recipe.name ≡ Less
-
-tail_pairs : (p : ℕ) (ps : List ℕ) → AllPairs (λ x y. x < y) (p ∷ ps) → AllPairs (λ x y. x < y) ps
-tail_pairs p ps pairs i j d lt below = pairs (suc i) (suc j) d (omega (arith, lt)) (omega (arith, below))
-
-head_below : (p : ℕ) (ps : List ℕ) → AllPairs (λ x y. x < y) (p ∷ ps) → (q : ℕ) → Contains ps q → p < q
-head_below p ps pairs q i =
-    let within = i.1 in
-    let far : p < get_or ps i.0 q = pairs 0 (suc i.0) q (omega arith) (omega (arith, within)) in
-    subst (λ (r : ℕ). p < r) i.2 far
-
-module _ (cs : List Candidate) where
-  firsts : (p : ℕ) (ps : List ℕ) (x : Candidate) → slice_get cs p ≡ Some x → All (λ q. q < length cs) ps → AllPairs (λ a b. a < b) (p ∷ ps) →
-      Ordered cs (p ∷ ps)
-      → (n : List ℕ) → Contains (map candidate_name (chosen cs ps)) n → slice_cmp nat_cmp x.recipe.name n ≡ Less
-  firsts p ps x is below pairs ordered n i =
-      let f = from_map candidate_name (chosen cs ps) n i in
-      let at = chosen_at cs ps below f.1.0 f.0 (slice_get_read (chosen cs ps) (length (chosen cs ps)) f.1.0 f.0 refl f.1.1 (sym f.1.2)) in
-      let there = element ps f.1.0 at.place at.listed in
-      subst (λ (m : List ℕ). slice_cmp nat_cmp x.recipe.name m ≡ Less) f.2
-      (ordered p at.place x f.0 (in_here p ps) (in_there p ps at.place there) (head_below p ps pairs at.place there) is at.there)
-
-  rise_step : (p : ℕ) (ps : List ℕ) (o : Option Candidate) → slice_get cs p ≡ o → p < length cs → All (λ q. q < length cs) ps →
-      AllPairs (λ a b. a < b) (p ∷ ps) → Ordered cs (p ∷ ps)
-      → IsStrictlySortedBy (slice_cmp nat_cmp) (map candidate_name (chosen cs ps)) → IsStrictlySortedBy (slice_cmp nat_cmp) (map candidate_name
-      (with_candidate o (chosen cs ps)))
-  unfolding IsStrictlySortedBy
-  rise_step p ps None is low below pairs ordered more = absurd (some_below cs p low is)
-  rise_step p ps (Some x) is low below pairs ordered more = (
-    recursion_from_All (λ n. slice_cmp nat_cmp x.recipe.name n ≡ Less) (map candidate_name (chosen cs ps))
-        (all_from_in (λ n. slice_cmp nat_cmp x.recipe.name n ≡ Less) (map candidate_name (chosen cs ps)) (firsts p ps x is below pairs ordered)),
-    more,
-  )
-
-  rise_all : (ps : List ℕ) → All (λ q. q < length cs) ps → AllPairs (λ a b. a < b) ps → Ordered cs ps →
-      IsStrictlySortedBy (slice_cmp nat_cmp) (map candidate_name (chosen cs ps))
-  unfolding IsStrictlySortedBy
-  rise_all [] below pairs ordered = tt
-  rise_all (p ∷ ps) below pairs ordered =
-      rise_step p ps (slice_get cs p) refl (All-head (λ q. q < length cs) p ps below) (All-tail (λ q. q < length cs) p ps below) pairs ordered
-      (rise_all ps (All-tail (λ q. q < length cs) p ps below) (tail_pairs p ps pairs) (λ q r c e i j. ordered q r c e (in_there p ps q i) (in_there p ps r j)))
-
-  pub chosen_rise : IsRising (members cs) → (wanted : List Need) (set : List ℕ) → IsValid (members cs) wanted set
-      → AreRising (map candidate_name (chosen cs set))
-  chosen_rise rising wanted set valid = rise_all set (inside cs wanted set valid) (AllPairs-from_increasing set valid.rising) ordered
-    where
-      ordered : Ordered cs set
-      ordered q r c e i j lt at to =
-          let first = get_or_from_slice_get (members cs) q (member c) (member c) (at_place cs q c at) in
-          let second = get_or_from_slice_get (members cs) r (member e) (member c) (at_place cs r e to) in
-          let before : IsBefore (member c) (member e) =
-          subst (λ (m : Member). IsBefore (member c) m) second (subst (λ (m : Member). IsBefore m (get_or (members cs) r (member c))) first
-          (rising q r (member c) lt (slice_get_within (members cs) r (member e) (at_place cs r e to)))) in
-          elim before [
-            | inl less ↦ less
-            | inr same ↦ (let equal = valid.one_version q r i j (ap name_in (at_place cs q c at) ∙ ap (λ (n : List ℕ). Some n) same.0
-                ∙ sym (ap name_in (at_place cs r e to))) in
-                absurd (omega (arith, lt, equal)))
-          ]

@@ -4,7 +4,7 @@ use deployment_doc::{DocFault, Document, Root};
 use nuc_base::Policy;
 use std::alloc::Global;
 use std::test::Fail;
-use test_support::{joined, push_resets, repeated, repeated_of};
+use test_support::{Reader, first_wrong, first_wrong_repeated, push_resets, repeated};
 use tree_core::TreeFault;
 
 // Each line is what is answered, a bar and the document. An answer is the printed reason of the fault; or the id, the
@@ -145,11 +145,17 @@ d g ROLLBACK A 1.0.0 update merge Fields([])|{"merge":{}}
 d g ROLLBACK A 1.0.0 update merge Fields([("a", Whole(-1)), ("b", Items([Null]))])|{"MERGE":{"b":[null],"a":-1}}
 d g ROLLBACK A 1.0.0 update merge Fields([("a", Text("x")), ("b", Flag(true))])|{"merge":" {\"b\":true,\"a\":\"x\"} "}"#;
 
-fn answer(alloc: Global, text: &str) -> Result<String, Fail> {
-    let read = Document::read(alloc, text.as_bytes());
-    let answer = answer_of(alloc, &read);
-    drop(read);
-    answer
+/// What reads documents.
+#[derive(Clone, Copy)]
+struct Documents;
+
+impl Reader for Documents {
+    fn answer(&self, alloc: Global, text: &str) -> Result<String, Fail> {
+        let read = Document::read(alloc, text.as_bytes());
+        let answer = answer_of(alloc, &read);
+        drop(read);
+        answer
+    }
 }
 
 fn answer_of(alloc: Global, read: &Result<Document, DocFault>) -> Result<String, Fail> {
@@ -201,35 +207,7 @@ fn add_update(alloc: Global, text: &mut String, update: &Update) -> Result<(), F
     Ok(())
 }
 
-fn is_answered(alloc: Global, text: &str, wanted: &str) -> Result<bool, Fail> {
-    Ok(answer(alloc, text)?.as_str() == wanted)
-}
-
-fn is_row(alloc: Global, prefix: &str, row: &str, back: &str) -> Result<bool, Fail> {
-    let Some((wanted, middle)) = row.split_once('|') else {
-        return Ok(false);
-    };
-    let text = joined(alloc, prefix, middle, back)?;
-    is_answered(alloc, text.as_str(), wanted)
-}
-
-/// The first row of a table that is not answered as it says, or the empty text.
-fn first_wrong<'t>(
-    alloc: Global,
-    prefix: &str,
-    table: &'t str,
-    back: &str,
-) -> Result<&'t str, Fail> {
-    for row in table.lines() {
-        if !is_row(alloc, prefix, row, back)? {
-            return Ok(row);
-        }
-    }
-    Ok("")
-}
-
-// Many parts of one form, each with its number: what is answered, a bar, the number of parts, a bar, what stands before
-// each number, a bar, and what stands behind it.
+// Many parts of one form.
 const MANY_COMPONENTS: &str = r#"TooMany components|129|"A|":{"componentVersion":"1.0.0"}
 TooMany components|129|"A|":{}
 Missing componentVersion|128|"A|":{}"#;
@@ -237,30 +215,6 @@ Missing componentVersion|128|"A|":{}"#;
 const MANY_RESETS: &str = r#"TooMany reset|257||
 WrongKind reset|256||
 BadPointer A|256|"|""#;
-
-fn is_repeated_row(alloc: Global, prefix: &str, row: &str, back: &str) -> Result<bool, Fail> {
-    let Some((wanted, parts)) = row.split_once('|') else {
-        return Ok(false);
-    };
-    match repeated_of(alloc, prefix, parts, back)? {
-        Some(text) => is_answered(alloc, text.as_str(), wanted),
-        None => Ok(false),
-    }
-}
-
-fn first_wrong_repeated<'t>(
-    alloc: Global,
-    prefix: &str,
-    table: &'t str,
-    back: &str,
-) -> Result<&'t str, Fail> {
-    for row in table.lines() {
-        if !is_repeated_row(alloc, prefix, row, back)? {
-            return Ok(row);
-        }
-    }
-    Ok("")
-}
 
 const RESETS: &str =
     r#"{"targetArn":"g","components":{"A":{"componentVersion":"1.0.0","configurationUpdate":{"reset":["#;
@@ -327,17 +281,23 @@ fn text_with_id(alloc: Global, length: usize) -> Result<String, Fail> {
 
 fn id_answer(alloc: Global, length: usize) -> Result<String, Fail> {
     let text = text_with_id(alloc, length)?;
-    answer(alloc, text.as_str())
+    Documents.answer(alloc, text.as_str())
 }
 
 #[test]
 fn documents_are_read(rt: HostRuntime) -> Result<(), Fail> {
     let alloc = rt.alloc();
-    assert_eq!(rt; first_wrong(alloc, "", WHOLE, "")?, "");
-    assert_eq!(rt; first_wrong(alloc, REVISION, REVISIONS, "}")?, "");
-    assert_eq!(rt; first_wrong(alloc, POLICY, POLICIES, "}")?, "");
-    assert_eq!(rt; first_wrong(alloc, COMPONENT, COMPONENTS, "}")?, "");
-    assert_eq!(rt; first_wrong(alloc, UPDATE, UPDATES, "}}}")?, "");
+    assert_eq!(rt; first_wrong(alloc, &Documents, "", WHOLE, "")?, "");
+    assert_eq!(rt;
+        first_wrong(alloc, &Documents, REVISION, REVISIONS, "}")?,
+        ""
+    );
+    assert_eq!(rt; first_wrong(alloc, &Documents, POLICY, POLICIES, "}")?, "");
+    assert_eq!(rt;
+        first_wrong(alloc, &Documents, COMPONENT, COMPONENTS, "}")?,
+        ""
+    );
+    assert_eq!(rt; first_wrong(alloc, &Documents, UPDATE, UPDATES, "}}}")?, "");
     Ok(())
 }
 
@@ -345,11 +305,11 @@ fn documents_are_read(rt: HostRuntime) -> Result<(), Fail> {
 fn documents_are_limited(rt: HostRuntime) -> Result<(), Fail> {
     let alloc = rt.alloc();
     assert_eq!(rt;
-        first_wrong_repeated(alloc, PARTS, MANY_COMPONENTS, "}}")?,
+        first_wrong_repeated(alloc, &Documents, PARTS, MANY_COMPONENTS, "}}")?,
         ""
     );
     assert_eq!(rt;
-        first_wrong_repeated(alloc, RESETS, MANY_RESETS, "]}}}}")?,
+        first_wrong_repeated(alloc, &Documents, RESETS, MANY_RESETS, "]}}}}")?,
         ""
     );
     assert_eq!(rt; roots_of(alloc, 128)?, 128);

@@ -47,7 +47,7 @@ left_of R (x ∷ xs) (b ∷ ys) z y i = elim (in_cons b ys y i) [
 
 -- ---- the candidates of a set
 
-abbrev candidate_name : Candidate → List ℕ
+abbrev pub candidate_name : Candidate → List ℕ
 candidate_name c = c.recipe.name
 
 pub at_place : (cs : List Candidate) (q : ℕ) (c : Candidate) → slice_get cs q ≡ Some c → slice_get (members cs) q ≡ Some (member c)
@@ -116,6 +116,25 @@ module _ (cs : List Candidate) where
       rise_step p ps (slice_get cs p) refl (All-head (λ q. q < length cs) p ps below) (All-tail (λ q. q < length cs) p ps below) pairs ordered
       (rise_all ps (All-tail (λ q. q < length cs) p ps below) (tail_pairs p ps pairs) (λ q r c e i j. ordered q r c e (in_there p ps q i) (in_there p ps r j)))
 
+  -- the names of a valid set rise
+  pub chosen_rise : IsRising (members cs) → (wanted : List Need) (set : List ℕ) → IsValid (members cs) wanted set
+      → AreRising (map candidate_name (chosen cs set))
+  chosen_rise rising wanted set valid = rise_all set (inside cs wanted set valid) (AllPairs-from_increasing set valid.rising) ordered
+    where
+      ordered : Ordered cs set
+      ordered q r c e i j lt at to =
+          let first = get_or_from_slice_get (members cs) q (member c) (member c) (at_place cs q c at) in
+          let second = get_or_from_slice_get (members cs) r (member e) (member c) (at_place cs r e to) in
+          let before : IsBefore (member c) (member e) =
+          subst (λ (m : Member). IsBefore (member c) m) second (subst (λ (m : Member). IsBefore m (get_or (members cs) r (member c))) first
+          (rising q r (member c) lt (slice_get_within (members cs) r (member e) (at_place cs r e to)))) in
+          elim before [
+            | inl less ↦ less
+            | inr same ↦ (let equal = valid.one_version q r i j (ap name_in (at_place cs q c at) ∙ ap (λ (n : List ℕ). Some n) same.0
+                ∙ sym (ap name_in (at_place cs r e to))) in
+                absurd (omega (arith, lt, equal)))
+          ]
+
 names_same : (p : Platform) (cs : List Candidate) (items : List Item) → AllZip (IsMade p) cs items → map candidate_name cs ≡ map item_name items
 names_same p [] [] z = refl
 names_same p [] (i ∷ items) z = absurd z
@@ -128,22 +147,8 @@ module _ (one : IsOneRecipe) (p : Platform) (cs : List Candidate) (rising : IsRi
   below : All (λ q. q < length cs) set
   below = inside cs wanted set valid
 
-  ordered : Ordered cs set
-  ordered q r c e i j lt at to =
-      let first = get_or_from_slice_get (members cs) q (member c) (member c) (at_place cs q c at) in
-      let second = get_or_from_slice_get (members cs) r (member e) (member c) (at_place cs r e to) in
-      let before : IsBefore (member c) (member e) =
-      subst (λ (m : Member). IsBefore (member c) m) second (subst (λ (m : Member). IsBefore m (get_or (members cs) r (member c))) first
-      (rising q r (member c) lt (slice_get_within (members cs) r (member e) (at_place cs r e to)))) in
-      elim before [
-        | inl less ↦ less
-        | inr same ↦ (let equal = valid.one_version q r i j (ap name_in (at_place cs q c at) ∙ ap (λ (n : List ℕ). Some n) same.0 ∙ sym
-            (ap name_in (at_place cs r e to))) in
-            absurd (omega (arith, lt, equal)))
-      ]
-
   pub names_rise : AreRising (map item_name items)
-  names_rise = subst AreRising (names_same p (chosen cs set) items made) (rise_all cs set below (AllPairs-from_increasing set valid.rising) ordered)
+  names_rise = subst AreRising (names_same p (chosen cs set) items made) (chosen_rise cs rising wanted set valid)
 
   -- ---- where an item comes from, and what stands for a place
 

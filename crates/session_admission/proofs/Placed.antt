@@ -1,16 +1,11 @@
 -- The item of a name, and its bootstrap step.
-use Rattle.std.proofs.Common.{◌≡◌, ℕ, zero, suc, ◌+◌, ◌≤◌, List, [], ◌∷◌, map, length, Option, Some, None, Bool, true, false, refl, sym, ap, subst, ◌∙◌, inl}
+use Rattle.std.proofs.Common.{◌≡◌, ℕ, zero, suc, ◌+◌, ◌≤◌, List, [], ◌∷◌, length, Option, Some, None, Bool, true, false, refl, sym, ap, subst, ◌∙◌, inl}
 use Rattle.std.proofs.Common.{inr, arith}
 use Rattle.std.specs.Prelude.{slice_get, is_some, IsSome, if◌then◌else◌}
-use Rattle.std.specs.List.{AllByRecursion, Contains}
-use Rattle.std.specs.List.Sorted.{IsStrictlySortedBy}
-use Rattle.std.specs.Ordering.{nat_cmp, is_eq}
-use Rattle.std.specs.Cmp.Lexicographic.{slice_cmp}
+use Rattle.std.specs.List.{Contains}
 use Rattle.std.specs.Str.{bytes_eq}
-use Rattle.std.specs.declared.cmp.Ordering.TheVariants.{Less}
 use Rattle.std.proofs.lemmas.Bool.{false≢true}
 use Rattle.std.proofs.lemmas.List.Elements.{All-contains, All-from_recursion}
-use Rattle.std.proofs.lemmas.Map.Text.{is_eq-slice_cmp}
 use Rattle.std.proofs.lemmas.Slice.Eq.{bytes_eq-Decides}
 use Rattle.nuc_base.specs.declared.kinds.Step.TheVariants as step
 use Rattle.nuc_base.specs.declared.platform.Platform.{Platform}
@@ -22,8 +17,9 @@ use Rattle.interpolation.specs.declared.scope.Scope.{Scope}
 use Rattle.records.specs.Stored.{Item}
 use Rattle.records.specs.declared.record.Origin.{Origin}
 use Rattle.device.specs.Lawful.{place, place_from}
-use Rattle.device.specs.Plans.{AreItems, HasRecipe, IsBoot, AreRising, item_name}
+use Rattle.device.specs.Plans.{AreItems, HasRecipe, IsBoot, item_name}
 use Rattle.device.specs.Scopes.{HasScope}
+use Rattle.deploy_state.proofs.SameItem.{same_item}
 use Rattle.components.specs.Made.{IsPrepared, IsPreparedFrom, IsStepAt}
 use Rattle.components.specs.declared.kinds.Prepared.{Prepared}
 use Rattle.session_boots.specs.Made.{IsBootOf}
@@ -76,36 +72,6 @@ none_is o is some = false≢true (sym (ap is_some is) ∙ some)
 
 pub is_there : (p : Platform) (items : List Item) (n : List ℕ) → IsBoot p items n → place n items ≡ None → ⊥
 is_there p items n boot none = none_is (place n items) none (found_from 0 n items boot.item boot.is_one boot.named)
-
--- ---- items of one name
-
-less_self : (n : List ℕ) → slice_cmp nat_cmp n n ≡ Less → ⊥
-less_self n less = false≢true (sym (ap is_eq less) ∙ is_eq-slice_cmp n n ∙ (bytes_eq-Decides n n).1 refl)
-
-below_all : (n : List ℕ) (items : List Item) → AllByRecursion (λ m. slice_cmp nat_cmp n m ≡ Less) (map item_name items) → (i : Item) → Contains items i →
-    slice_cmp nat_cmp n i.name ≡ Less
-below_all n [] less i has = absurd (in_nil i has)
-below_all n (x ∷ items) less i has = elim (in_cons x items i has) [
-  | inl here ↦ subst (λ (y : Item). slice_cmp nat_cmp n y.name ≡ Less) here less.0
-  | inr there ↦ below_all n items less.1 i there
-]
-
--- where names rise, two items of one name are one
-same_item : (items : List Item) → AreRising (map item_name items) → (a b : Item) → Contains items a → Contains items b → a.name ≡ b.name → a ≡ b
-unfolding IsStrictlySortedBy
-same_item [] rise a b i j same = absurd (in_nil a i)
-same_item (x ∷ items) rise a b i j same = elim (in_cons x items a i) [
-  | inl e ↦ elim (in_cons x items b j) [
-    | inl f ↦ sym e ∙ f
-    | inr there ↦ absurd (less_self b.name (subst (λ (n : List ℕ). slice_cmp nat_cmp n b.name ≡ Less) (ap item_name e ∙ same)
-        (below_all x.name items rise.0 b there)))
-  ]
-  | inr here ↦ elim (in_cons x items b j) [
-    | inl f ↦ absurd (less_self a.name (subst (λ (n : List ℕ). slice_cmp nat_cmp n a.name ≡ Less) (ap item_name f ∙ sym same)
-        (below_all x.name items rise.0 a here)))
-    | inr there ↦ same_item items rise.1 a b here there same
-  ]
-]
 
 -- ---- its step
 

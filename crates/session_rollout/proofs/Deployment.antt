@@ -9,7 +9,6 @@ use Rattle.device.specs.Devices.{Device, Pending}
 use Rattle.device.specs.Lawful.{Lawful, Run, activated, applied, begun, boot_ended, close_pending, count_failure, rolled, sent_back}
 use Rattle.step_runner.specs.Entries.{Told}
 use Rattle.step_runner.specs.declared.entries.Seen.{Seen}
-use Rattle.step_runner.specs.declared.entries.Seen.TheVariants as seen
 use Rattle.components.specs.Fitted.{Fitted}
 use Rattle.components.specs.Components.{Components}
 use Rattle.components.specs.declared.kinds.Prepared.{Prepared}
@@ -17,6 +16,7 @@ use Rattle.histories.specs.TraceEvents.{Answer, TraceEvent, Ran, Booted, WaitEla
 use Rattle.histories.specs.TraceEvents.{StopsAll, is_document, records_of}
 use Rattle.histories.specs.States.{SessionState, booted, cut_off, is_wait, leaves, state_after, noted, ran, takes_document}
 use Rattle.histories.specs.Follows.{IsProper, MayFollow, MayTakeBy}
+use Rattle.histories.proofs.Once.{IsSameInbox, booted_inbox, cut_inbox, untouched}
 use Rattle.session_boots.specs.Stands.{IsAtBootStage}
 use Rattle.session_admission.specs.Readied.{AreReadiedFor}
 use Rattle.session_admission.proofs.Serving.{ready_after}
@@ -63,39 +63,11 @@ shut_stage p d world told living f =
 
 -- ---- what happens there leaves it so
 
-record SameInbox (p q : SessionState) : Type 0 where
-  serves : q.serves ≡ p.serves
-  turns : q.turns ≡ p.turns
-  answer : q.answer ≡ p.answer
-
-untouched : (p : SessionState) → SameInbox p p
-untouched p = record { serves = refl; turns = refl; answer = refl }
-
-booted_inbox : (s : Seen) (m : Prepared) (p : SessionState) → SameInbox p (booted s m p)
-booted_inbox (seen.Started n c) m p = record { serves = refl; turns = refl; answer = refl }
-booted_inbox (seen.Refused c) m p = record { serves = refl; turns = refl; answer = refl }
-booted_inbox (seen.Killed n) m p = record { serves = refl; turns = refl; answer = refl }
-booted_inbox (seen.Exists x true) m p = record { serves = refl; turns = refl; answer = refl }
-booted_inbox (seen.Exists x false) m p = untouched p
-booted_inbox (seen.OnPath x true) m p = record { serves = refl; turns = refl; answer = refl }
-booted_inbox (seen.OnPath x false) m p = untouched p
-booted_inbox (seen.Ended n e l) m p = record { serves = refl; turns = refl; answer = refl }
-booted_inbox (seen.Elapsed l) m p = untouched p
-
-cut_inbox : (s : Seen) (p : SessionState) → SameInbox p (cut_off s p)
-cut_inbox (seen.Started n c) p = record { serves = refl; turns = refl; answer = refl }
-cut_inbox (seen.Refused c) p = record { serves = refl; turns = refl; answer = refl }
-cut_inbox (seen.Killed n) p = record { serves = refl; turns = refl; answer = refl }
-cut_inbox (seen.Exists x b) p = record { serves = refl; turns = refl; answer = refl }
-cut_inbox (seen.OnPath x b) p = record { serves = refl; turns = refl; answer = refl }
-cut_inbox (seen.Ended n e l) p = record { serves = refl; turns = refl; answer = refl }
-cut_inbox (seen.Elapsed l) p = record { serves = refl; turns = refl; answer = refl }
-
 none_or : (b : Bool) (a : Option Answer) → a ≡ None → (if b then None else a) ≡ None
 none_or true a none = refl
 none_or false a none = none
 
-noted_takes : (s : Seen) (p q : SessionState) → SameInbox p q → TakesNone p → TakesNone (noted s q)
+noted_takes : (s : Seen) (p q : SessionState) → IsSameInbox p q → TakesNone p → TakesNone (noted s q)
 noted_takes s p q same t = record {
   serves = same.serves ∙ t.serves;
   turns = same.turns ∙ t.turns;

@@ -1,6 +1,5 @@
 -- The set is brought up.
-use Rattle.std.specs.Prelude.{◌↔◌, ℕ, Bool, true, false, not, ◌&&◌, ◌||◌, List, [], ◌∷◌, Option, Some, None}
-use Rattle.std.specs.List.{list_any}
+use Rattle.std.specs.Prelude.{◌↔◌, ℕ, Bool, true, false, ◌||◌, List, [], ◌∷◌, Option, Some, None}
 use Rattle.std.proofs.Common.{◌≡◌, ◌∙◌, inl, inr, refl, sym, ap, subst}
 use Rattle.std.proofs.lemmas.Bool.{false≢true}
 use Rattle.records.specs.declared.record.Origin.{Origin}
@@ -9,11 +8,10 @@ use Rattle.device.specs.Lawful.{no_failures}
 use Rattle.step_runner.specs.Entries.{Told}
 use Rattle.components.specs.Answers.{has_answered}
 use Rattle.components.specs.Changes.{changed_to}
-use Rattle.components.specs.Components.{ComponentState, Components, has_orphan}
+use Rattle.components.specs.Components.{Components}
 use Rattle.components.specs.Fitted.{Fitted}
 use Rattle.components.specs.Made.{AreFitted}
 use Rattle.components.specs.Marks.{HasFirst}
-use Rattle.components.specs.Turns.{is_late, is_to_start, is_unstarted, may_act, may_begin, may_retry, may_stop}
 use Rattle.histories.specs.Follows.{MayChange, MayFollow}
 use Rattle.histories.specs.Phases.{Duty, duty_of, idle, is_idle}
 use Rattle.histories.specs.States.{SessionState, state_after}
@@ -24,38 +22,9 @@ use Rattle.law_supervisor.specs.Sound.{IsOrderly}
 use Rattle.session_boots.specs.Traces.{ActTrace}
 use Rattle.session_boots.proofs.Acting.{grows_none}
 use Rattle.session_steady.specs.Serves.{IsServing}
+use Rattle.session_transitions.proofs.Rising.{none_begun}
 use Rattle.session_transitions.proofs.Shut.{changed_answered}
 use Rattle.session_serving.specs.Places.{IsUnopened}
-
--- ---- where none may act and each start is answered, none is open
-
-or_none : (a b : Bool) → (a || b) ≡ false → (a ≡ false) × (b ≡ false)
-or_none true b e = absurd (false≢true (sym e))
-or_none false b e = (refl, e)
-
-started : (u h : Bool) → (u && not h) ≡ false → h ≡ false → u ≡ false
-started true true e shut = absurd (false≢true (sym shut))
-started true false e shut = absurd (false≢true (sym e))
-started false h e shut = refl
-
-shut_step : (b rest : Bool) → not (b || rest) ≡ true → (b ≡ false) × (not rest ≡ true)
-shut_step true rest h = absurd (false≢true h)
-shut_step false rest h = (refl, h)
-
-both_none : (a b : Bool) → a ≡ false → b ≡ false → (a || b) ≡ false
-both_none a b e f = rw e f
-
-none_begun : (w : Components) (ps : List ComponentState) → list_any (may_act w) ps ≡ false → not (list_any (λ (p : ComponentState). p.handed) ps) ≡ true →
-    list_any is_unstarted ps ≡ false
-none_begun w [] quiet shut = refl
-none_begun w (p ∷ ps) quiet shut =
-    let acts = or_none (may_act w p) (list_any (may_act w) ps) quiet in
-    let s = shut_step p.handed (list_any (λ (q : ComponentState). q.handed) ps) shut in
-    let late = or_none (may_begin w p || may_retry p) (is_late w.moment p || (may_stop w p || (has_orphan p || is_to_start p))) acts.0 in
-    let stops = or_none (is_late w.moment p) (may_stop w p || (has_orphan p || is_to_start p)) late.1 in
-    let orphans = or_none (may_stop w p) (has_orphan p || is_to_start p) stops.1 in
-    let starts = or_none (has_orphan p) (is_to_start p) orphans.1 in
-    both_none (is_unstarted p) (list_any is_unstarted ps) (started (is_unstarted p) p.handed starts.1 s.0) (none_begun w ps acts.1 s.1)
 
 -- ---- where nothing is pending
 

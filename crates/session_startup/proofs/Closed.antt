@@ -67,10 +67,10 @@ found_in : (l : List ℕ) → Found l
 found_in [] = refl
 found_in (x ∷ l) = found_by x l (nat_eq 3 x) refl (found_in l)
 
-three_same : (q : Pending) → is_some (broken q) ≡ has_three q.failures
+pub three_same : (q : Pending) → is_some (broken q) ≡ has_three q.failures
 three_same q = is_cond (nat_lt (position_or_len (nat_eq 3) q.failures) (length q.failures)) (position_or_len (nat_eq 3) q.failures) ∙ found_in q.failures
 
-counts_in : (d : Device) (q : Pending) (s : Stage) → (duty_in d (record q { stage = s })).counts ≡ q.failures
+pub counts_in : (d : Device) (q : Pending) (s : Stage) → (duty_in d (record q { stage = s })).counts ≡ q.failures
 counts_in d q stages.Booting = refl
 counts_in d q stages.Activating = refl
 counts_in d q stages.Backing = refl

@@ -1,11 +1,9 @@
 -- What is lawful of a deployment that fails.
-use Rattle.std.specs.Prelude.{ℕ, ◌==◌, nat_eq, nat_lt, length, map, get_or, slice_get, Bool, true, false, List, [], ◌∷◌, Option, Some, None, IsSome, is_some}
+use Rattle.std.specs.Prelude.{ℕ, nat_eq, length, map, get_or, slice_get, Bool, true, false, List, [], Option, Some, None, IsSome, is_some}
 use Rattle.std.specs.Prelude.{option_and_then, position, if◌then◌else◌}
-use Rattle.std.specs.List.{list_any, position_or_len}
 use Rattle.std.specs.Option.{IfSome, IsSomeAnd, option_map_or}
 use Rattle.std.proofs.Common.{◌≡◌, ◌<◌, ◌∙◌, inl, inr, refl, sym, ap, subst, arith}
 use Rattle.std.proofs.lemmas.Bool.{eqb-true, false≢true}
-use Rattle.std.proofs.lemmas.Bool.Decides.{nat_tests}
 use Rattle.std.proofs.lemmas.List.{length-map}
 use Rattle.std.proofs.lemmas.List.Quantifiers.{position-Some}
 use Rattle.std.proofs.lemmas.Option.{slice_get-get_or}
@@ -23,6 +21,7 @@ use Rattle.deploy_state.specs.Fields.{CanBreakOff, has_failed}
 use Rattle.deploy_state.specs.States.{IsIn}
 use Rattle.histories.specs.Phases.{duty_in, duty_of}
 use Rattle.histories.specs.Waits.{has_three}
+use Rattle.session_startup.proofs.Closed.{counts_in, three_same}
 use Rattle.session_transitions.specs.Fails.{is_rollback, is_to_roll_back}
 
 abbrev pends : Device → Option Pending → Device
@@ -39,33 +38,6 @@ rollback_is policies.Rollback h = refl
 rollback_is policies.DoNothing h = absurd (false≢true h)
 
 -- ---- a third failure
-
-is_cond : (b : Bool) (k : ℕ) → is_some (if b then Some k else None) ≡ b
-is_cond true k = refl
-is_cond false k = refl
-
-eq_swapped : (a b : ℕ) → nat_eq a b ≡ (b == a)
-eq_swapped a b = grind (arith, nat_tests)
-
-abbrev Found : List ℕ → Type 0
-Found l = nat_lt (position_or_len (nat_eq 3) l) (length l) ≡ list_any (λ n. n == 3) l
-
-found_by : (x : ℕ) (l : List ℕ) (b : Bool) → nat_eq 3 x ≡ b → Found l → Found (x ∷ l)
-found_by x l true is rest = let turned : (x == 3) ≡ true = sym (eq_swapped 3 x) ∙ is in grind (arith, nat_tests, is, turned)
-found_by x l false is rest = let turned : (x == 3) ≡ false = sym (eq_swapped 3 x) ∙ is in grind (arith, nat_tests, is, turned, rest)
-
-found_in : (l : List ℕ) → Found l
-found_in [] = refl
-found_in (x ∷ l) = found_by x l (nat_eq 3 x) refl (found_in l)
-
-three_same : (q : Pending) → is_some (broken q) ≡ has_three q.failures
-three_same q = is_cond (nat_lt (position_or_len (nat_eq 3) q.failures) (length q.failures)) (position_or_len (nat_eq 3) q.failures) ∙ found_in q.failures
-
-counts_in : (d : Device) (q : Pending) (s : Stage) → (duty_in d (record q { stage = s })).counts ≡ q.failures
-counts_in d q stages.Booting = refl
-counts_in d q stages.Activating = refl
-counts_in d q stages.Backing = refl
-counts_in d q stages.Rolling = refl
 
 broke_in : (d : Device) (q : Pending) → has_three (duty_in d q).counts ≡ true → is_some (broken q) ≡ true
 broke_in d q three = three_same q ∙ ap has_three (sym (counts_in d q q.stage)) ∙ three

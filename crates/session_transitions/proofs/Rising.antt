@@ -80,7 +80,7 @@ shut_step false rest h = (refl, h)
 both_none : (a b : Bool) → a ≡ false → b ≡ false → (a || b) ≡ false
 both_none a b e f = rw e f
 
-none_begun : (w : Components) (ps : List ComponentState) → list_any (may_act w) ps ≡ false → not (list_any (λ (p : ComponentState). p.handed) ps) ≡ true →
+pub none_begun : (w : Components) (ps : List ComponentState) → list_any (may_act w) ps ≡ false → not (list_any (λ (p : ComponentState). p.handed) ps) ≡ true →
     list_any is_unstarted ps ≡ false
 none_begun w [] quiet shut = refl
 none_begun w (p ∷ ps) quiet shut =

@@ -1,8 +1,7 @@
 // Rows: stores that are made, documents that are deployed to them, and what is printed.
-use disk_model::MemoryDisk;
 use std::alloc::Global;
 use std::test::Fail;
-use test_calls::{Asked, begin, call};
+use test_calls::{Asked, Caller, Store, call, first_wrong};
 
 /// Calls, one after another. A line `store` begins a store whose library has recipes of these words: a name, a version, and
 /// then a step and its script, any number of times. Every other line is a call: its command; the document's id and policy and
@@ -97,87 +96,44 @@ status|||0|thing t1;nucleus 2.12.0;group g;require N 1.0.0;group local;require B
 "#
 );
 
-/// What the calls go to.
-#[derive(Drop)]
-struct Store {
-    disk: MemoryDisk,
-    recipes: &'static str,
-}
+/// What makes the calls of the rows.
+#[derive(Clone, Copy)]
+struct Deployments;
 
-/// Whether the call of the row comes to what it says.
-fn is_row(alloc: Global, store: &mut Store, row: &'static str) -> Result<bool, Fail> {
-    let mut fields = row.splitn(4, '|');
-    let command = fields.next().unwrap_or("");
-    let document = fields.next().unwrap_or("");
-    let ends = fields.next().unwrap_or("");
-    let want = fields.next().unwrap_or("?");
-    // A change of a configuration takes nothing from a library.
-    let recipes = if command.starts_with("config-set") {
-        ""
-    } else {
-        store.recipes
-    };
-    let asked = Asked {
-        recipes,
-        command,
-        document,
-        ends,
-    };
-    let printed = call(alloc, &mut store.disk, asked)?;
-    let is_wanted = printed.as_str() == want;
-    drop(printed);
-    Ok(is_wanted)
-}
-
-/// A new store whose library has these recipes.
-fn store_of(alloc: Global, recipes: &'static str) -> Result<Store, Fail> {
-    Ok(Store {
-        disk: begin(alloc)?,
-        recipes,
-    })
-}
-
-/// Begins the store of the row, or makes its call: whether that comes to what the row says.
-fn goes(alloc: Global, store: &mut Store, row: &'static str) -> Result<bool, Fail> {
-    match row.strip_prefix("store|") {
-        Some(recipes) => {
-            *store = store_of(alloc, recipes)?;
-            Ok(true)
-        }
-        None => is_row(alloc, store, row),
+impl Caller for Deployments {
+    fn is_row(&self, alloc: Global, store: &mut Store, row: &'static str) -> Result<bool, Fail> {
+        let mut fields = row.splitn(4, '|');
+        let command = fields.next().unwrap_or("");
+        let document = fields.next().unwrap_or("");
+        let ends = fields.next().unwrap_or("");
+        let want = fields.next().unwrap_or("?");
+        // A change of a configuration takes nothing from a library.
+        let recipes = if command.starts_with("config-set") {
+            ""
+        } else {
+            store.recipes
+        };
+        let asked = Asked {
+            recipes,
+            command,
+            document,
+            ends,
+        };
+        let printed = call(alloc, &mut store.disk, asked)?;
+        let is_wanted = printed.as_str() == want;
+        drop(printed);
+        Ok(is_wanted)
     }
-}
-
-/// The first line of which something else comes, from this store on, or none.
-fn first_wrong_from(
-    alloc: Global,
-    store: &mut Store,
-    rows: &'static str,
-) -> Result<&'static str, Fail> {
-    for row in rows.lines() {
-        if !goes(alloc, store, row)? {
-            return Ok(row);
-        }
-    }
-    Ok("")
-}
-
-/// The first line of which something else comes, or none.
-fn first_wrong(alloc: Global, rows: &'static str) -> Result<&'static str, Fail> {
-    let mut store = store_of(alloc, "")?;
-    let wrong = first_wrong_from(alloc, &mut store, rows);
-    drop(store);
-    wrong
 }
 
 #[test]
 fn deployments_run_their_steps(rt: HostRuntime) -> Result<(), Fail> {
-    assert_eq!(rt; first_wrong(rt.alloc(), ROWS)?, "");
+    assert_eq!(rt; first_wrong(rt.alloc(), &Deployments, ROWS)?, "");
     Ok(())
 }
 
 #[test]
 fn requests_are_deployed(rt: HostRuntime) -> Result<(), Fail> {
-    assert_eq!(rt; first_wrong(rt.alloc(), REQUEST_ROWS)?, "");
+    assert_eq!(rt; first_wrong(rt.alloc(), &Deployments, REQUEST_ROWS)?, "");
     Ok(())
 }

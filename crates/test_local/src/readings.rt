@@ -6,7 +6,7 @@ use npm_ranges::Range;
 use nuc_base::Name;
 use std::alloc::Global;
 use std::test::Fail;
-use test_support::{joined, push_resets, repeated, repeated_of};
+use test_support::{Reader, first_wrong, first_wrong_repeated, push_resets, repeated};
 
 // Each line is what is answered, a bar and the text. An answer is the printed reason of the fault; or the id and the policy
 // of a request, `+` and `-` before what it merges and removes, and `~` before what it updates, with its resets by their
@@ -52,8 +52,7 @@ l ROLLBACK +X ^1.0.0 ~X merge Fields([("p", Whole(1))])|"merge":{"X":"^1.0.0"},"
 l DO_NOTHING -Y -X|"failureHandlingPolicy":"DO_NOTHING","remove":["Y","X","Y","X"]
 l ROLLBACK +A * +B 1.0.0 ~A ~C reset>p>q reset|"merge":{"B":"1.0.0","A":"*"},"updateConfig":{"C":{"reset":["/p/q",""]},"A":{}}"#;
 
-// Many parts of one form, each with its number: what is answered, a bar, the number of parts, a bar, what stands before
-// each number, a bar, and what stands behind it.
+// Many parts of one form.
 const MANY_MERGED: &str = r#"TooMany merge|129|"A|":"*"
 TooMany merge|129|"A|":1
 WrongKind merge|128|"A|":1"#;
@@ -95,10 +94,12 @@ enum Kind {
     Change,
 }
 
-fn answer(alloc: Global, kind: Kind, text: &str) -> Result<String, Fail> {
-    match kind {
-        Kind::Request => request_answer(alloc, text),
-        Kind::Change => change_answer(alloc, text),
+impl Reader for Kind {
+    fn answer(&self, alloc: Global, text: &str) -> Result<String, Fail> {
+        match *self {
+            Kind::Request => request_answer(alloc, text),
+            Kind::Change => change_answer(alloc, text),
+        }
     }
 }
 
@@ -169,58 +170,6 @@ fn change_text(alloc: Global, change: &Change) -> Result<String, Fail> {
     Ok(text)
 }
 
-fn is_answered(alloc: Global, kind: Kind, text: &str, wanted: &str) -> Result<bool, Fail> {
-    Ok(answer(alloc, kind, text)?.as_str() == wanted)
-}
-
-fn is_row(alloc: Global, kind: Kind, prefix: &str, row: &str, back: &str) -> Result<bool, Fail> {
-    let Some((wanted, middle)) = row.split_once('|') else {
-        return Ok(false);
-    };
-    let text = joined(alloc, prefix, middle, back)?;
-    is_answered(alloc, kind, text.as_str(), wanted)
-}
-
-/// The first row of a table that is not answered as it says, or the empty text.
-fn first_wrong<'t>(
-    alloc: Global,
-    kind: Kind,
-    prefix: &str,
-    table: &'t str,
-    back: &str,
-) -> Result<&'t str, Fail> {
-    for row in table.lines() {
-        if !is_row(alloc, kind, prefix, row, back)? {
-            return Ok(row);
-        }
-    }
-    Ok("")
-}
-
-fn is_repeated_row(alloc: Global, prefix: &str, row: &str, back: &str) -> Result<bool, Fail> {
-    let Some((wanted, parts)) = row.split_once('|') else {
-        return Ok(false);
-    };
-    match repeated_of(alloc, prefix, parts, back)? {
-        Some(text) => is_answered(alloc, Kind::Request, text.as_str(), wanted),
-        None => Ok(false),
-    }
-}
-
-fn first_wrong_repeated<'t>(
-    alloc: Global,
-    prefix: &str,
-    table: &'t str,
-    back: &str,
-) -> Result<&'t str, Fail> {
-    for row in table.lines() {
-        if !is_repeated_row(alloc, prefix, row, back)? {
-            return Ok(row);
-        }
-    }
-    Ok("")
-}
-
 /// How many names are removed by a request that names one so many times.
 fn count_removed(alloc: Global, count: u32) -> Result<usize, Fail> {
     let text = repeated(
@@ -240,11 +189,11 @@ fn count_removed(alloc: Global, count: u32) -> Result<usize, Fail> {
 fn requests_are_read(rt: HostRuntime) -> Result<(), Fail> {
     let alloc = rt.alloc();
     assert_eq!(rt;
-        first_wrong(alloc, Kind::Request, "", WHOLE_REQUESTS, "")?,
+        first_wrong(alloc, &Kind::Request, "", WHOLE_REQUESTS, "")?,
         ""
     );
     assert_eq!(rt;
-        first_wrong(alloc, Kind::Request, REQUEST, REQUESTS, "}")?,
+        first_wrong(alloc, &Kind::Request, REQUEST, REQUESTS, "}")?,
         ""
     );
     Ok(())
@@ -254,12 +203,19 @@ fn requests_are_read(rt: HostRuntime) -> Result<(), Fail> {
 fn requests_are_limited(rt: HostRuntime) -> Result<(), Fail> {
     let alloc = rt.alloc();
     assert_eq!(rt;
-        first_wrong_repeated(alloc, r#"{"deploymentId":"l","merge":{"#, MANY_MERGED, "}}")?,
+        first_wrong_repeated(
+            alloc,
+            &Kind::Request,
+            r#"{"deploymentId":"l","merge":{"#,
+            MANY_MERGED,
+            "}}"
+        )?,
         ""
     );
     assert_eq!(rt;
         first_wrong_repeated(
             alloc,
+            &Kind::Request,
             r#"{"deploymentId":"l","remove":["#,
             MANY_REMOVED,
             "]}"
@@ -269,6 +225,7 @@ fn requests_are_limited(rt: HostRuntime) -> Result<(), Fail> {
     assert_eq!(rt;
         first_wrong_repeated(
             alloc,
+            &Kind::Request,
             r#"{"deploymentId":"l","updateConfig":{"#,
             MANY_UPDATED,
             "}}"
@@ -283,9 +240,12 @@ fn requests_are_limited(rt: HostRuntime) -> Result<(), Fail> {
 fn changes_are_read(rt: HostRuntime) -> Result<(), Fail> {
     let alloc = rt.alloc();
     assert_eq!(rt;
-        first_wrong(alloc, Kind::Change, "", WHOLE_CHANGES, "")?,
+        first_wrong(alloc, &Kind::Change, "", WHOLE_CHANGES, "")?,
         ""
     );
-    assert_eq!(rt; first_wrong(alloc, Kind::Change, CHANGE, CHANGES, "}")?, "");
+    assert_eq!(rt;
+        first_wrong(alloc, &Kind::Change, CHANGE, CHANGES, "}")?,
+        ""
+    );
     Ok(())
 }

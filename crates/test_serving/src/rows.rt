@@ -4,7 +4,7 @@ use disk_model::MemoryDisk;
 use std::alloc::{AllocError, Global};
 use std::process::Abort;
 use std::test::Fail;
-use test_calls::begin;
+use test_calls::{Caller, Store, begin, first_wrong};
 
 /// Calls, one after another. A line `store` begins a store, with the recipes of its library. Every other line is a call: its
 /// command; what the inbox has; how children end, and which calls fail; the status; the lines that are printed, with `;` for
@@ -85,67 +85,33 @@ serve --turns 2|d1 ROLLBACK&closed||0|closed d1 SUCCESSFUL;|
 resume|||0|idle;|
 "#;
 
-/// What the calls go to.
-#[derive(Drop)]
-struct Store {
-    disk: MemoryDisk,
-    recipes: &'static str,
-}
+/// What makes the calls of the rows.
+#[derive(Clone, Copy)]
+struct Serving;
 
-/// Whether the call of the row comes to what it says.
-fn is_row(alloc: Global, store: &mut Store, row: &'static str) -> Result<bool, Fail> {
-    let mut fields = row.splitn(4, '|');
-    let command = fields.next().unwrap_or("");
-    let documents = fields.next().unwrap_or("");
-    let outside = fields.next().unwrap_or("");
-    let want = fields.next().unwrap_or("?");
-    let asked = Asked {
-        recipes: store.recipes,
-        command,
-        documents,
-        outside,
-    };
-    let said = call(alloc, &mut store.disk, asked)?;
-    let is_wanted = said.as_str() == want;
-    drop(said);
-    Ok(is_wanted)
-}
-
-/// A new store whose library has these recipes.
-fn store_of(alloc: Global, recipes: &'static str) -> Result<Store, Fail> {
-    Ok(Store {
-        disk: begin(alloc)?,
-        recipes,
-    })
-}
-
-/// Begins the store of the row, or makes its call: whether that comes to what the row says.
-fn goes(alloc: Global, store: &mut Store, row: &'static str) -> Result<bool, Fail> {
-    match row.strip_prefix("store|") {
-        Some(recipes) => {
-            *store = store_of(alloc, recipes)?;
-            Ok(true)
-        }
-        None => is_row(alloc, store, row),
+impl Caller for Serving {
+    fn is_row(&self, alloc: Global, store: &mut Store, row: &'static str) -> Result<bool, Fail> {
+        let mut fields = row.splitn(4, '|');
+        let command = fields.next().unwrap_or("");
+        let documents = fields.next().unwrap_or("");
+        let outside = fields.next().unwrap_or("");
+        let want = fields.next().unwrap_or("?");
+        let asked = Asked {
+            recipes: store.recipes,
+            command,
+            documents,
+            outside,
+        };
+        let said = call(alloc, &mut store.disk, asked)?;
+        let is_wanted = said.as_str() == want;
+        drop(said);
+        Ok(is_wanted)
     }
-}
-
-/// The first row of which something else comes, from this store on, or none.
-fn first_wrong(alloc: Global, store: &mut Store, rows: &'static str) -> Result<&'static str, Fail> {
-    for row in rows.lines() {
-        if !goes(alloc, store, row)? {
-            return Ok(row);
-        }
-    }
-    Ok("")
 }
 
 /// Makes the calls of the rows.
 fn each_row_comes(rt: &impl Abort, alloc: Global, rows: &'static str) -> Result<(), Fail> {
-    let mut store = store_of(alloc, "")?;
-    let wrong = first_wrong(alloc, &mut store, rows);
-    drop(store);
-    assert_eq!(rt; wrong?, "");
+    assert_eq!(rt; first_wrong(alloc, &Serving, rows)?, "");
     Ok(())
 }
 
