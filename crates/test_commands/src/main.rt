@@ -22,3 +22,7 @@ mod stores;
 mod whys;
 #[cfg(test)]
 mod workloads;
+
+/// Nothing: this crate is its tests. It is a program since the gate sums up the files below a library along every path of
+/// `crates.txt`, and those of a program not at all.
+fn main() {}

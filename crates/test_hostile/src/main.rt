@@ -13,3 +13,7 @@ mod faults;
 mod limits;
 #[cfg(test)]
 mod turns;
+
+/// Nothing: this crate is its tests. It is a program since the gate sums up the files below a library along every path of
+/// `crates.txt`, and those of a program not at all.
+fn main() {}
