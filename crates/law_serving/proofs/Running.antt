@@ -17,18 +17,18 @@ use Rattle.components.specs.Events.{killed, heard_at, heard_of}
 use Rattle.components.specs.Lives.{lived_at}
 use Rattle.components.specs.Platforms.{AllFor, AllRunFor, RunsFor}
 use Rattle.components.specs.declared.kinds.Event.TheVariants as events
-use Rattle.components.specs.declared.kinds.Prepared.{Prepared}
 use Rattle.components.proofs.Platforms.{ready_for, run_change, run_noticed, run_steadied, run_stopped}
 use Rattle.law_supervisor.proofs.Begun.{started_steady}
 use Rattle.law_supervisor.proofs.Gone.{ended_steady, killed_steady}
 use Rattle.law_supervisor.proofs.Lists.{changed_all}
 use Rattle.histories.specs.Follows.{IsProper, MayFollow, MayKeep}
 use Rattle.histories.specs.Phases.{duty_in, duty_of, is_idle}
-use Rattle.histories.specs.States.{SessionState, booted, cut_child, cut_off, kept_by, leaves, ran, state_after}
+use Rattle.histories.specs.States.{SessionState, cut_child, cut_off, kept_by, leaves, ran, state_after}
 use Rattle.histories.specs.TraceEvents.{TraceEvent, Ran, Booted, WaitElapsed, KilledOnAbort, Recorded, Moved, ReadClock, Heard, InboxAsked, Changed, StopsAll}
 use Rattle.law_histories.proofs.Histories.{Runs, run_less}
 use Rattle.law_serving.specs.Kept.{IsSteadyIdle}
 use Rattle.law_serving.proofs.Records.{Allows, allows, booted_device, cut_device, origin_on, stays_idle, taken_pends}
+use Rattle.law_histories.proofs.StepEnds.{booted_world}
 
 -- ---- the device's origin and stage
 
@@ -44,15 +44,6 @@ duty_origin d (Some q) = by (record d { pending = Some q }) q
 
     by : (d : Device) (q : Pending) → (duty_in d q).origin ≡ d.origin
     by d q = at d q q.stage
-
--- ---- the world that a bootstrap leaves
-
-booted_world : (s : Seen) (m : Prepared) (p : SessionState) → (booted s m p).world ≡ p.world
-booted_world (seen.Exists x true) m p = refl
-booted_world (seen.Exists x false) m p = refl
-booted_world (seen.OnPath x true) m p = refl
-booted_world (seen.OnPath x false) m p = refl
-booted_world s m p = refl
 
 -- what befalls the components keeps it
 pub record KeepRecipes : Type 0 where

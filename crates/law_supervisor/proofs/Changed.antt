@@ -24,7 +24,8 @@ use Rattle.components.specs.Changes.{fate, standing, is_replacing, replanned, ne
 use Rattle.law_supervisor.specs.Sound.{IsSoundPart, IsOrderly, may_ask, is_waiting, is_to_begin_again}
 use Rattle.law_supervisor.specs.Keeps.{AgreesBy, IsCounted, count_of, AreCounted, HasNoneOwed}
 use Rattle.law_supervisor.proofs.Lists.{either, clash, second_true, none_of, from_places, mapped_all}
-use Rattle.law_supervisor.proofs.Reached.{Marks, firsts_flagged, restarted_all, same_may}
+use Rattle.components.proofs.Whole.{firsts_flagged}
+use Rattle.law_supervisor.proofs.Reached.{Marks, restarted_all, same_may}
 use Rattle.law_supervisor.proofs.Alone.{IsCountedNext, bare_of, mark_sound, mark_counted}
 use Rattle.law_supervisor.proofs.Together.{sound_of, told_each}
 

@@ -20,7 +20,8 @@ use Rattle.components.specs.Changes.{standing, is_replacing, replanned, newcomer
 use Rattle.law_supervisor.specs.Sound.{HaveOwnNames, IsOrderly, IsSoundPart, AreDistinct}
 use Rattle.law_supervisor.specs.Keeps.{AreCounted, IsCounted, ItemsDiffer, HasNoneOwed, IsSupervised, Owns}
 use Rattle.law_supervisor.proofs.Lists.{clash, some_same, no_some, from_places, at_places, mapped_all, mapped_same}
-use Rattle.law_supervisor.proofs.Reached.{firsts_flagged, restarted_all, restarted_same, same_may}
+use Rattle.components.proofs.Whole.{firsts_flagged}
+use Rattle.law_supervisor.proofs.Reached.{restarted_all, restarted_same, same_may}
 use Rattle.law_supervisor.proofs.Counts.{count, same_living, one_owns, owns_one}
 use Rattle.law_supervisor.proofs.Together.{told_each}
 use Rattle.law_supervisor.proofs.Changed.{left_as, texts_named, texts_same, placed_all, newcomers_all, standing_all, changed_sound, changed_counted}

@@ -1,34 +1,14 @@
 -- Marks change which stop is asked for, and nothing else.
-use Rattle.std.proofs.Common.{◌≡◌, ℕ, suc, zero, List, [], ◌∷◌, map, length, Some, None, Bool, true, false, refl, sym, ap, ◌∙◌, subst}
+use Rattle.std.proofs.Common.{◌≡◌, List, [], ◌∷◌, map, length, Some, None, Bool, true, false, refl, sym, ap, ◌∙◌, subst}
 use Rattle.std.specs.Prelude.{◌&&◌, ◌||◌, if◌then◌else◌, is_some}
 use Rattle.std.specs.List.{AllByRecursion}
 use Rattle.std.proofs.lemmas.Bool.{or_parts, and_parts}
 use Rattle.lifecycle.specs.Awaits.{is_stopping}
 use Rattle.lifecycle.specs.declared.kinds.After.TheVariants as after
 use Rattle.components.specs.Components.{ComponentState, has_orphan, is_to_stop, is_starting, is_up}
-use Rattle.components.specs.Marks.{Flagged, flagged, flagged_at, grown, reaching, marked, restarted, may_replan, may_restart}
+use Rattle.components.specs.Marks.{Flagged, reaching, marked, restarted, may_replan, may_restart}
+use Rattle.components.proofs.Whole.{firsts, firsts_reaching}
 use Rattle.law_supervisor.proofs.Lists.{not_so, none_of}
-
-abbrev pub firsts : Flagged → List ComponentState
-firsts [] = []
-firsts (f ∷ fs) = f.0 ∷ firsts fs
-
-firsts_grown : (all fs : Flagged) → firsts (grown all fs) ≡ firsts fs
-firsts_grown all [] = refl
-firsts_grown all (f ∷ fs) = ap (λ (ps : List ComponentState). f.0 ∷ ps) (firsts_grown all fs)
-
-pub firsts_reaching : (n : ℕ) (fs : Flagged) → firsts (reaching n fs) ≡ firsts fs
-firsts_reaching zero fs = refl
-firsts_reaching (suc n) fs = firsts_reaching n (grown fs fs) ∙ firsts_grown fs fs
-
-pub firsts_flagged : (test : ComponentState → Bool) (ps : List ComponentState) → firsts (flagged test ps) ≡ ps
-firsts_flagged test [] = refl
-firsts_flagged test (p ∷ ps) = ap (λ (qs : List ComponentState). p ∷ qs) (firsts_flagged test ps)
-
-pub firsts_at : (k : ℕ) (ps : List ComponentState) → firsts (flagged_at k ps) ≡ ps
-firsts_at k [] = refl
-firsts_at zero (p ∷ ps) = ap (λ (qs : List ComponentState). p ∷ qs) (firsts_flagged (λ q. false) ps)
-firsts_at (suc k) (p ∷ ps) = ap (λ (qs : List ComponentState). p ∷ qs) (firsts_at k ps)
 
 -- ---- who may be marked
 

@@ -18,7 +18,8 @@ use Rattle.law_supervisor.specs.Sound.{IsSoundPart, AreSound, AreDistinct, HaveO
 use Rattle.law_supervisor.specs.Keeps.{IsCounted, IsSupervised, HasNoneOwed}
 use Rattle.law_supervisor.proofs.Lists.{none_of, some_same, no_some, from_places, at_places, changed_all, changed_same, changed_here, changed_past, twice}
 use Rattle.law_supervisor.proofs.Lists.{changed_nothing, any_same}
-use Rattle.law_supervisor.proofs.Reached.{Marks, firsts_at, restarted_all, restarted_same, may_replan_of}
+use Rattle.components.proofs.Whole.{firsts_at}
+use Rattle.law_supervisor.proofs.Reached.{Marks, restarted_all, restarted_same, may_replan_of}
 use Rattle.law_supervisor.proofs.Items.{same_children}
 use Rattle.law_supervisor.proofs.Made.{MayBefall, begins, ends_fairly}
 use Rattle.law_supervisor.proofs.Alone.{runs_in, sound_these, counted_these, same_name, run_lived, sound_lived, counted_lived, mark_sound, mark_counted, but}

@@ -13,7 +13,7 @@ use Rattle.components.specs.Marks.{Flagged, flagged_at, marked, may_restart, rea
 use Rattle.components.specs.Turns.{is_met, hard_needs}
 use Rattle.law_supervisor.specs.Sound.{HaveOwnNames}
 use Rattle.law_supervisor.proofs.Together.{same_names}
-use Rattle.law_supervisor.proofs.Reached.{firsts, firsts_at, firsts_reaching}
+use Rattle.components.proofs.Whole.{firsts, firsts_at, firsts_reaching}
 use Rattle.law_supervisor.proofs.Lists.{twice}
 use Rattle.law_termination.specs.Drives.{IsInTime, IsBelow, IsDriven, GoesOn, HasItemToTake, is_ending}
 use Rattle.law_termination.specs.Kept.{IsOrderedPart, AreKept}

@@ -10,7 +10,7 @@ use Rattle.components.specs.Components.{ComponentState, is_over, component_name}
 use Rattle.components.specs.Fitted.{Fitted, is_before, name_of}
 use Rattle.components.specs.Marks.{Flagged, marked, may_replan}
 use Rattle.law_supervisor.proofs.Lists.{clash, either}
-use Rattle.law_supervisor.proofs.Reached.{firsts}
+use Rattle.components.proofs.Whole.{firsts}
 use Rattle.law_termination.proofs.Lists.{Has}
 use Rattle.law_termination.proofs.Near.{all_more, same_bytes}
 

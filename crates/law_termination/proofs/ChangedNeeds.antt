@@ -18,7 +18,8 @@ use Rattle.components.specs.Marks.{Flagged, flagged, may_replan, reaching}
 use Rattle.components.specs.Turns.{is_met, hard_needs, coming_needs}
 use Rattle.law_supervisor.specs.Sound.{HaveOwnNames, is_to_begin_again, is_waiting}
 use Rattle.law_supervisor.proofs.Changed.{found}
-use Rattle.law_supervisor.proofs.Reached.{idle_of, firsts_flagged, firsts, firsts_reaching}
+use Rattle.components.proofs.Whole.{firsts_flagged, firsts, firsts_reaching}
+use Rattle.law_supervisor.proofs.Reached.{idle_of}
 use Rattle.law_supervisor.proofs.Lists.{clash, either, none_of, not_so}
 use Rattle.law_termination.specs.Drives.{IsAmong, IsInTime, IsPlaced, IsBelow, IsDriven, MayTakeOver, AreDriven, HasItemToTake, is_ending}
 use Rattle.law_termination.specs.Kept.{IsKeptPart, IsOrderedPart, are_there, newest}

@@ -10,7 +10,7 @@ use Rattle.components.specs.Components.{At, ComponentState, component_name}
 use Rattle.components.specs.Marks.{Flagged, AreFlagsWithin, flagged, grown, is_flagged, needs_flagged}
 use Rattle.law_supervisor.specs.Sound.{HaveOwnNames}
 use Rattle.law_supervisor.proofs.Lists.{some_same}
-use Rattle.law_supervisor.proofs.Reached.{firsts}
+use Rattle.components.proofs.Whole.{firsts}
 use Rattle.law_termination.proofs.Lists.{Has}
 
 pub same_bytes : (a : List ℕ) → bytes_eq a a ≡ true

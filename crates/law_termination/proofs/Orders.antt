@@ -10,7 +10,7 @@ use Rattle.components.specs.Fitted.{Fitted, name_of}
 use Rattle.components.specs.Marks.{Flagged, marked, may_restart}
 use Rattle.components.specs.Turns.{is_met}
 use Rattle.law_supervisor.proofs.Lists.{either, clash}
-use Rattle.law_supervisor.proofs.Reached.{firsts}
+use Rattle.components.proofs.Whole.{firsts}
 use Rattle.law_termination.specs.Kept.{IsOrderedPart, AllBelow, newest, are_there}
 
 abbrev pub View : Type 0

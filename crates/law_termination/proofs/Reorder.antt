@@ -14,7 +14,7 @@ use Rattle.components.specs.Turns.{is_met, with_hard_needs, is_held_far, direct_
 use Rattle.components.proofs.Closes.{closes, most}
 use Rattle.law_supervisor.specs.Sound.{HaveOwnNames, is_waiting}
 use Rattle.law_supervisor.proofs.Lists.{clash, either, none_of, second_true}
-use Rattle.law_supervisor.proofs.Reached.{firsts_flagged, firsts, firsts_reaching}
+use Rattle.components.proofs.Whole.{firsts_flagged, firsts, firsts_reaching}
 use Rattle.law_termination.specs.Drives.{IsBelow, IsDriven, is_ending}
 use Rattle.law_termination.specs.Kept.{AllBelow, IsKeptPart, IsOrderedPart, are_there, newest}
 use Rattle.law_termination.proofs.Lists.{Has, all_has, each_has, has_any, passing}

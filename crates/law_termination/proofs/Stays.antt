@@ -26,7 +26,7 @@ use Rattle.law_supervisor.proofs.Made.{MayBefall, begins}
 use Rattle.law_supervisor.proofs.Gone.{owner_at}
 use Rattle.law_supervisor.proofs.Alone.{bare_of, begins_alone}
 use Rattle.law_supervisor.proofs.Lists.{either, clash, some_same, not_so, changed_nothing}
-use Rattle.law_supervisor.proofs.Reached.{firsts_reaching, firsts_at}
+use Rattle.components.proofs.Whole.{firsts_reaching, firsts_at}
 use Rattle.law_termination.specs.Kept.{IsKeptPart}
 use Rattle.law_termination.proofs.Answered.{unhanded, plainly_started, started_is, answered_all, answered_length, answered_begun, handed_all}
 use Rattle.law_termination.proofs.Keeps.{Known, stays_known, event_known, changed_known, gone_known, end_known, launch_known, child_known}

@@ -6,7 +6,7 @@ use Rattle.nuc_base.specs.declared.kinds.Step.{Step}
 use Rattle.lifecycle.specs.declared.kinds.LifeEvent.{LifeEvent}
 use Rattle.components.specs.Components.{ComponentState, Child, At, changed_at, is_leaving}
 use Rattle.components.specs.Marks.{Flagged}
-use Rattle.law_supervisor.proofs.Reached.{firsts}
+use Rattle.components.proofs.Whole.{firsts}
 use Rattle.law_termination.specs.Rank.{start_weight}
 use Rattle.law_termination.proofs.Cores.{gain}
 

@@ -7,7 +7,7 @@ use Rattle.lifecycle.specs.declared.kinds.LifeEvent.{LifeEvent}
 use Rattle.components.specs.Components.{ComponentState, At, changed_at}
 use Rattle.components.specs.Lives.{lived, lived_at, drops, drops_at as drops_in}
 use Rattle.components.specs.Marks.{Flagged, flagged_at, reaching, marked, restarted, may_restart}
-use Rattle.law_supervisor.proofs.Reached.{firsts, firsts_reaching, firsts_at}
+use Rattle.components.proofs.Whole.{firsts, firsts_reaching, firsts_at}
 use Rattle.law_supervisor.proofs.Lists.{twice}
 use Rattle.law_termination.specs.Rank.{times, sum_by}
 use Rattle.law_termination.proofs.Sums.{length_firsts, length_changed, at_map}

@@ -39,7 +39,7 @@ use Rattle.components.specs.Components.{Components}
 use Rattle.histories.specs.TraceEvents.{TraceEvent, records_of}
 use Rattle.session_serving.specs.Documents.{IsDeployedThere}
 use Rattle.session_serving.specs.Parts.{AreOfFiles, Outside}
-use Rattle.session_serving.specs.Places.{IsBegun}
+use Rattle.session_serving.specs.States.{IsBegun}
 use Rattle.session_serving.specs.Served.{EndsAs, IsResumedOrIdle, IsSetServed, IsWholeCall}
 use Rattle.nucleus_top.specs.Meeting.{StayMet}
 use Rattle.nucleus_top.specs.Serving.{slots_ghosts}

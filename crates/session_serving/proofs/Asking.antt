@@ -18,7 +18,7 @@ use Rattle.session_acts.specs.Runs.{IsInTurn}
 use Rattle.session_steady.specs.Runs.{IsSame}
 use Rattle.session_steady.specs.Serves.{IsAsking, IsSteady, IsWaiting}
 use Rattle.session_steady.proofs.Serving.{asking_serves}
-use Rattle.session_serving.specs.Places.{IsAsked}
+use Rattle.session_serving.specs.States.{IsAsked}
 
 -- it may be asked
 pub asked_here : (p : SessionState) (d : Device) (world : Components) (told : Told) (living : List ℕ) (x : Answer) (list : Option (List RunnerEntry)) →

@@ -55,7 +55,7 @@ use Rattle.session.specs.declared.ran.Standing.{Standing}
 use Rattle.session.specs.declared.ran.Standing.TheVariants as standings
 use Rattle.session_serving.specs.Documents.{IsOwnOrEdge, IsDeployedThere, IsEnded, IsHandled, IsOf, RecordsEnd}
 use Rattle.session_serving.specs.Parts.{AllStandFor, AreOfFiles, HistoryKept, IsStarted, Outside, IsStartShown}
-use Rattle.session_serving.specs.Places.{IsAsked, IsUnopened}
+use Rattle.session_serving.specs.States.{IsAsked, IsUnopened}
 use Rattle.session_serving.specs.Rounds.{Handled}
 use Rattle.session_serving.specs.Turns.{DocumentLeft, IsReady, StaysRan}
 use Rattle.session_serving.proofs.Images.{part_images, whole_now}

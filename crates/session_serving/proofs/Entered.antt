@@ -24,7 +24,7 @@ use Rattle.session_boots.proofs.Acting.{grows_none}
 use Rattle.session_steady.specs.Serves.{IsServing}
 use Rattle.session_transitions.proofs.Rising.{none_begun}
 use Rattle.session_transitions.proofs.Shut.{changed_answered}
-use Rattle.session_serving.specs.Places.{IsUnopened}
+use Rattle.session_serving.specs.States.{IsUnopened}
 
 -- ---- where nothing is pending
 

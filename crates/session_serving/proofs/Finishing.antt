@@ -40,7 +40,7 @@ use Rattle.session.specs.declared.ran.Standing.{Standing}
 use Rattle.session.specs.declared.ran.Standing.TheVariants as standings
 use Rattle.session.proofs.States.{stage_returned}
 use Rattle.session_serving.specs.Parts.{AllStandFor, AreOfFiles, HistoryKept, Outside}
-use Rattle.session_serving.specs.Places.{IsBegun, IsUnopened}
+use Rattle.session_serving.specs.States.{IsBegun, IsUnopened}
 use Rattle.session_serving.specs.Documents.{RecordsEnd}
 use Rattle.session_serving.specs.Served.{FinishLeft, IsPendingResumed}
 use Rattle.session_serving.proofs.Deploying.{device_same, drained, end_beside, not_edge, own_status, over_status, records_end, turns_same}

@@ -13,7 +13,7 @@ use Rattle.deploy_state.proofs.Steps.{in_hand_stands}
 use Rattle.components.specs.Components.{Components}
 use Rattle.deploy_state.specs.Objects.{OwnsOver}
 use Rattle.session_serving.specs.Parts.{AllStandFor}
-use Rattle.session_serving.specs.Places.{AreUp}
+use Rattle.session_serving.specs.States.{AreUp}
 use Rattle.session_serving.specs.Turns.{OwnsTurned, UpTurned}
 use Rattle.session_serving.specs.declared.turned.Turned.{Turned}
 use Rattle.session_serving.specs.declared.turned.Turned.TheVariants as turned

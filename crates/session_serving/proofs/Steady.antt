@@ -8,7 +8,7 @@ use Rattle.histories.specs.States.{SessionState}
 use Rattle.session_steady.specs.Runs.{IsSame}
 use Rattle.session_steady.specs.Serves.{IsAsking, IsServing, SettledLeft}
 use Rattle.session_steady.specs.Stays.{IsKeptSteady}
-use Rattle.session_serving.specs.Places.{AreUp}
+use Rattle.session_serving.specs.States.{AreUp}
 
 module _ (x q : SessionState) (d : Device) (world : Components) (told : Told) (living : List ℕ) (r : Option ℕ) where
   pub settled_some : (now : ℕ) → r ≡ Some now → SettledLeft x r q d world told living → IsAsking q d world told living × IsSame x q × (q.answer ≡ x.answer)

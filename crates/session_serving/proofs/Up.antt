@@ -24,7 +24,7 @@ use Rattle.session_transitions.specs.Enters.{RunOn}
 use Rattle.session.specs.Parts.{IsBack, RanLeft}
 use Rattle.session.specs.declared.ran.Ran.{Ran}
 use Rattle.session.specs.declared.ran.Ran.TheVariants as ran
-use Rattle.session_serving.specs.Places.{AreUp}
+use Rattle.session_serving.specs.States.{AreUp}
 use Rattle.session_serving.specs.Turns.{UpRan}
 
 -- those that stand run their items

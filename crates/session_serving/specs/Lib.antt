@@ -2,6 +2,6 @@ pub mod Rounds
 pub mod Parts
 pub mod Causes
 pub mod Documents
-pub mod Places
+pub mod States
 pub mod Turns
 pub mod Served

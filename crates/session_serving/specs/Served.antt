@@ -23,7 +23,7 @@ use Rattle.session.specs.declared.ran.Ran.{Ran}
 use Rattle.session.specs.declared.ran.Ran.TheVariants as ran
 use Rattle.session_serving.specs.Documents.{IsOwnOrEdge, RecordsEnd}
 use Rattle.session_serving.specs.Parts.{AllStandFor, HistoryKept, HoldsOn, IsStarted, IsSure, Outside, LinesWritten}
-use Rattle.session_serving.specs.Places.{IsUnopened}
+use Rattle.session_serving.specs.States.{IsUnopened}
 use Rattle.session_serving.specs.Rounds.{AreHandled, AreStarted, WaitingLeft, Handled, LastRound, Round, Spent, Shut, answered_by, lines_of_rounds}
 use Rattle.session_serving.specs.Rounds.{SaysLast, asked_of_last, questions_of, questions_of_rounds, records_of_last, records_of_rounds}
 use Rattle.session_serving.specs.Rounds.{round_of_last, unprinted_of_last}

@@ -31,7 +31,7 @@ use Rattle.session_serving.specs.declared.turned.Turned.{Turned}
 use Rattle.session_serving.specs.declared.turned.Turned.TheVariants as turned
 use Rattle.session_serving.specs.Documents.{IsOwnOrEdge, IsDone, IsEnded, IsHandled, IsLastDone}
 use Rattle.session_serving.specs.Parts.{AllStandFor, CallEnded, HistoryKept, HoldsOn, Outside, TurnsPassed}
-use Rattle.session_serving.specs.Places.{AreUp, IsUnopened}
+use Rattle.session_serving.specs.States.{AreUp, IsUnopened}
 use Rattle.session_serving.specs.Rounds.{Handled, LastRound, Round, Spent, Shut, StoppedBy, InboxFailed, WantOfMemory, asked_of_last, inbox_fault_line}
 
 -- ---- lines

@@ -10,7 +10,7 @@ ghost use Rattle.session_steady.specs.Serves.{IsServing};
 ghost use Rattle.session_serving.specs.Causes.{IsCaused, observation};
 ghost use Rattle.session_serving.specs.Documents.{IsDeployedThere};
 ghost use Rattle.session_serving.specs.Parts.{AreOfFiles, outside};
-ghost use Rattle.session_serving.specs.Places.{AreUp, IsBegun, IsUnopened};
+ghost use Rattle.session_serving.specs.States.{AreUp, IsBegun, IsUnopened};
 ghost use Rattle.session_serving.specs.Served.{IsSetServed, IsWholeCall};
 
 use crate::ends::{give_up, say_ended, stop_all, stop_spent};

@@ -15,7 +15,7 @@ ghost use Rattle.session_shutdown.specs.Stops.{MayStop};
 ghost use Rattle.session_steady.specs.Serves.{IsAsking, IsServing};
 ghost use Rattle.session.specs.Calls.{IsOrEdge, SaysLine};
 ghost use Rattle.session.specs.Parts.{IsReturned};
-ghost use Rattle.session_serving.specs.Places.{AreUp};
+ghost use Rattle.session_serving.specs.States.{AreUp};
 ghost use Rattle.session_serving.specs.Served.{ended_line};
 ghost use Rattle.session_serving.specs.Turns.{GivesUpBy, inbox_line, line_of_fault};
 

@@ -12,7 +12,7 @@ ghost use Rattle.session.specs.Parts.{IsOver, OwnsRan, status_of_ran};
 ghost use Rattle.session_serving.specs.Causes.{IsCaused, observation};
 ghost use Rattle.session_serving.specs.Documents.{IsDeployedThere};
 ghost use Rattle.session_serving.specs.Parts.{AreOfFiles, outside};
-ghost use Rattle.session_serving.specs.Places.{AreUp, IsAsked};
+ghost use Rattle.session_serving.specs.States.{AreUp, IsAsked};
 ghost use Rattle.session_serving.specs.Turns.{DocumentLeft, HandleLeft, HasEnded, OwnsTurned, StaysRan, UpRan, UpTurned, status_of_turned};
 
 use crate::ends::{give_up, say_inbox};

@@ -13,7 +13,7 @@ ghost use Rattle.histories.specs.States.{SessionState, state_after};
 ghost use Rattle.histories.specs.TraceEvents.{TraceEvent};
 ghost use Rattle.session_boots.specs.Traces.{ActTrace};
 ghost use Rattle.session_steady.specs.Serves.{IsServing};
-ghost use Rattle.session_serving.specs.Places.{AreUp, IsUnopened};
+ghost use Rattle.session_serving.specs.States.{AreUp, IsUnopened};
 
 use components::{Mode, Supervise, marks_are_least, one_platform};
 use deploy_state::Idle;

@@ -10,7 +10,7 @@ ghost use Rattle.session_boots.specs.Stages.{AsTold};
 ghost use Rattle.session.specs.Parts.{IsOver, OwnsRan, status_of_ran};
 ghost use Rattle.session_serving.specs.Causes.{IsCaused, observation};
 ghost use Rattle.session_serving.specs.Parts.{AreOfFiles, outside};
-ghost use Rattle.session_serving.specs.Places.{IsBegun};
+ghost use Rattle.session_serving.specs.States.{IsBegun};
 ghost use Rattle.session_serving.specs.Served.{FinishLeft};
 ghost use Rattle.session_serving.specs.Turns.{StaysRan, UpRan};
 ghost use Rattle.std.specs.Prelude.{ℕ};

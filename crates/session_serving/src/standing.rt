@@ -8,7 +8,7 @@ ghost use Rattle.step_runner.specs.Entries.{Listed};
 ghost use Rattle.deploy_state.specs.Objects.{OwnsOver};
 ghost use Rattle.session_boots.specs.Stages.{AsTold};
 ghost use Rattle.session_boots.specs.Traces.{ActTrace};
-ghost use Rattle.session_serving.specs.Places.{AreUp};
+ghost use Rattle.session_serving.specs.States.{AreUp};
 ghost use Rattle.session_serving.specs.Turns.{HasEnded, IsReady, OwnsTurned, StandsAgain, UpTurned};
 
 use crate::ends::give_up;

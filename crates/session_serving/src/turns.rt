@@ -11,7 +11,7 @@ ghost use Rattle.session_steady.specs.Serves.{IsAsking, IsServing};
 ghost use Rattle.session_serving.specs.Causes.{IsCaused, observation};
 ghost use Rattle.session_serving.specs.Documents.{IsDeployedThere};
 ghost use Rattle.session_serving.specs.Parts.{AreOfFiles, outside};
-ghost use Rattle.session_serving.specs.Places.{AreUp};
+ghost use Rattle.session_serving.specs.States.{AreUp};
 ghost use Rattle.session_serving.specs.Turns.{HasEnded, OwnsTurned, TurnLeft, TurnsLeft, UpTurned, status_of_turned};
 
 use crate::ends::{give_up_asking, give_up_at_last};

@@ -15,7 +15,7 @@ use Rattle.law_termination.specs.Drives.{AreDriven}
 use Rattle.session_boots.specs.Traces.{ActTrace}
 use Rattle.session_steady.specs.Serves.{IsServing}
 use Rattle.session_transitions.proofs.Standing.{change_standing, drives_standing, standing_of}
-use Rattle.session_serving.specs.Places.{AreUp}
+use Rattle.session_serving.specs.States.{AreUp}
 use Rattle.session_serving.proofs.Entered.{opened}
 use Rattle.session_serving.proofs.Opens.{all_few, changed_uncounted, given_fitted, given_items, given_origin, none_few}
 use Rattle.session_serving.proofs.Up.{made_standing, one_origin}

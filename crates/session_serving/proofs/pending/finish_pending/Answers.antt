@@ -18,7 +18,7 @@ use Rattle.session.proofs.States.{orderly_none}
 use Rattle.session.proofs.Resuming.{loaded_hand, loaded_idle, loaded_pending, loaded_stands}
 use Rattle.session_serving.specs.Causes.{observation}
 use Rattle.session_serving.specs.Parts.{outside}
-use Rattle.session_serving.specs.Places.{IsBegun}
+use Rattle.session_serving.specs.States.{IsBegun}
 use Rattle.session_serving.proofs.Causing.{caused_none, done_quiet, stays_same}
 use Rattle.session_serving.proofs.Deploying.{ran_course, stays_quiet, stays_ran}
 use Rattle.session_serving.proofs.Finishing.{begun_alone, begun_deploys, begun_unopened, finish_left, unfinished}

@@ -9,7 +9,7 @@ use Rattle.session_steady.specs.Serves.{IsServing}
 use Rattle.session_serving.specs.Causes.{IsCaused, observation}
 use Rattle.session_serving.specs.Documents.{IsDeployedThere}
 use Rattle.session_serving.specs.Parts.{TurnsPassed, outside}
-use Rattle.session_serving.specs.Places.{AreUp}
+use Rattle.session_serving.specs.States.{AreUp}
 use Rattle.session_serving.specs.Rounds.{Round}
 use Rattle.session_serving.proofs.turns.take_turns.Given as goal
 
