@@ -12,6 +12,7 @@ use Rattle.admission.specs.declared.ask.Ask.{Ask}
 use Rattle.admission.specs.declared.fault.Declined.{Declined}
 use Rattle.deployment_doc.specs.declared.document.Document.{Document}
 use Rattle.nucleus_top.specs.Answers.{Input, Shelf, Store, printed_over, store_over}
+use Rattle.nucleus_top.specs.Completeness.{DeploysComplete, ResumesGetOn}
 use Rattle.nucleus_top.specs.Drives.{IsInputDeployed, IsDeployed, IsDeployedOn, IsRefusedBefore, IsResumed}
 use Rattle.nucleus_top.specs.declared.answer.Answer.{Answer}
 
@@ -42,3 +43,11 @@ module _ {D K R : Type 0} (disk : a_disk.Ghosts D) (sink : a_sink.Ghosts K) (run
   abbrev pub IsResumedOver : Type 0
   IsResumedOver = IsResumed disk.may_leave disk.moment disk.left_since disk.faults old new (runner.list r) (runner.list s) (printed_over sink k l) result
       (store_over disk old new)
+
+-- ---- laws
+
+abbrev pub DeploysCompleteOver : {D : Type 0} → a_disk.Ghosts D → Type 0
+DeploysCompleteOver disk = DeploysComplete disk.is_modelled disk.seen disk.may_leave disk.moment disk.left_since disk.faults
+
+abbrev pub ResumesGetOnOver : {D : Type 0} → a_disk.Ghosts D → Type 0
+ResumesGetOnOver disk = ResumesGetOn disk.is_modelled disk.seen disk.may_leave disk.moment disk.left_since disk.faults

@@ -4,7 +4,8 @@ ghost use Rattle.device.specs.Met.{Met};
 ghost use Rattle.disk_model.specs.Memory.{left_by};
 ghost use Rattle.nucleus_top.specs.Acknowledged.{DeployedStay, ServedStay};
 ghost use Rattle.nucleus_top.specs.Bounded.{AcceptsWithin, ServesWithin};
-ghost use Rattle.nucleus_top.specs.Completeness.{DeploysComplete, RestartsAreFew, ResumesGetOn};
+ghost use Rattle.nucleus_top.specs.Completeness.{RestartsAreFew};
+ghost use Rattle.nucleus_top.specs.Objects.{DeploysCompleteOver, ResumesGetOnOver};
 ghost use Rattle.nucleus_top.specs.Lasting.{RunsCloseMore, RunsLoseNothing, RunsTake};
 ghost use Rattle.nucleus_top.specs.Meeting.{BroughtStayMet};
 ghost use Rattle.nucleus_top.specs.Opening.{AreFound};
@@ -103,8 +104,8 @@ pub fn calls_reopen<D: Disk>()
 /// no passed limit at the runner is a failure. What `resume` says gives that it ends with 0 then, or leaves one more bootstrap of the plan ended,
 /// so that a plan needs no more restarts than it has bootstraps. Want of memory is free. It does nothing.
 pub fn calls_complete<D: Disk>()
-    ensures deploys { DeploysComplete D.is_modelled D.seen D.may_leave D.moment D.left_since D.faults }
-    ensures resumes { ResumesGetOn D.is_modelled D.seen D.may_leave D.moment D.left_since D.faults }
+    ensures deploys { DeploysCompleteOver D.Disk }
+    ensures resumes { ResumesGetOnOver D.Disk }
     ensures restarts { RestartsAreFew }
 {
     resumes_get_on();
