@@ -1,4 +1,4 @@
--- Until when a step may take.
+-- By when a step has to end.
 use Rattle.std.specs.Prelude.{ℕ, ◌+◌, ◌-◌, ◌^◌, Bool, false, nat_le, List, [], ◌∷◌, min, Option, Some, None}
 use Rattle.components.specs.Components.{Child, ComponentState, Components}
 

@@ -3,7 +3,7 @@ pub mod Growing
 pub mod Histories
 pub mod Standing
 pub mod Duties
-pub mod Turning
+pub mod RollingBack
 pub mod Beginning
 pub mod Differing
 pub mod Going

@@ -12,7 +12,7 @@ use Rattle.histories.specs.States.{SessionState, state_after}
 use Rattle.histories.specs.Follows.{MayBoot, MayBooted, MayRun}
 use Rattle.law_histories.specs.Stood.{IsHistory, HasHappened, RecordsStand}
 use Rattle.law_histories.specs.Starts.{AllBootsOweNone, AllStartsOweNone}
-use Rattle.law_histories.specs.Turned.{AllRollbacksPlain}
+use Rattle.law_histories.specs.Rollbacks.{AllRollbacksPlain}
 use Rattle.law_histories.proofs.Growing.{cut_last, not_empty}
 use Rattle.law_histories.proofs.Histories.{history_at, silent}
 

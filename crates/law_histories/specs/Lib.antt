@@ -1,6 +1,6 @@
 pub mod Stood
 pub mod Ends
-pub mod Turned
+pub mod Rollbacks
 pub mod Starts
 pub mod Onward
 pub mod Serving

@@ -1,7 +1,7 @@
 // Laws of whole histories, on functions that do nothing.
 ghost use Rattle.law_histories.specs.Stood.{RecordsStand};
 ghost use Rattle.law_histories.specs.Ends.{BootsEnded, FailuresEnded, NoneRecorded};
-ghost use Rattle.law_histories.specs.Turned.{ClosesCaused, RunsCloseCaused, AllRollbacksPlain};
+ghost use Rattle.law_histories.specs.Rollbacks.{ClosesCaused, RunsCloseCaused, AllRollbacksPlain};
 ghost use Rattle.law_histories.specs.Starts.{BootsDiffer, BootsStartOnce, AllBootsOweNone, AllStartsOweNone};
 ghost use Rattle.law_histories.specs.Onward.{BacksGoOn, DeploysGoOn, ResumesGoOn};
 ghost use Rattle.law_histories.specs.Serving.{LastIsUnasked, ServesTakeOnce};

@@ -11,7 +11,7 @@ use Rattle.device.specs.Lawful.{activated, applied, begun, boot_ended, count_fai
 use Rattle.device.specs.Lawful.{on_pending, one_ended, rolled, sent_back}
 use Rattle.deploy_state.specs.Fields.{IsBreak, backs_now, break_by}
 use Rattle.session_boots.specs.Same.{IsSameDeployment}
-use Rattle.session_boots.specs.Turns.{DeviceAfterBoot}
+use Rattle.session_boots.specs.AfterBoot.{DeviceAfterBoot}
 
 pub same_refl : (d : Device) → IsSameDeployment d d
 same_refl d = record { origin = refl; set = refl; plan = refl }

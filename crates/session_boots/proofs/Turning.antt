@@ -14,7 +14,7 @@ use Rattle.deploy_state.specs.Fields.{has_failed, next_name}
 use Rattle.components.specs.declared.kinds.Prepared.{Prepared}
 use Rattle.histories.specs.Phases.{duty_in, duty_of}
 use Rattle.session_boots.specs.Made.{AreBootsOf, AreMadeFor, AreStageBoots, IsBootOf, IsNextBoot, boot_items}
-use Rattle.session_boots.specs.Turns.{DeviceAfterBoot, steps_left}
+use Rattle.session_boots.specs.AfterBoot.{DeviceAfterBoot, steps_left}
 use Rattle.session_boots.proofs.Duties.{HasBoots, HasNone, IsNextIn, duty_next, ended_so, has_some, next_in, made_next, no_next, none_next, pends}
 
 -- ---- which comes next

@@ -5,7 +5,7 @@ pub mod Made
 pub mod Staged
 pub mod Stands
 pub mod Steps
-pub mod Turns
+pub mod AfterBoot
 pub mod Booted
 pub mod Same
 pub mod Stages

@@ -19,7 +19,7 @@ ghost use Rattle.session_boots.specs.Staged.{OwnsStage};
 ghost use Rattle.session_boots.specs.Ends.{IsOne, HasLines};
 ghost use Rattle.session_boots.specs.Stands.{IsAtBootStage};
 ghost use Rattle.session_boots.specs.Steps.{HasEnd};
-ghost use Rattle.session_boots.specs.Turns.{DeviceAfterBegin, DeviceAfterEnd, DeviceAfterBoot};
+ghost use Rattle.session_boots.specs.AfterBoot.{DeviceAfterBegin, DeviceAfterEnd, DeviceAfterBoot};
 ghost use Rattle.deploy_state.specs.Objects.{OwnsOver, KeepsOthers};
 ghost use Rattle.session_boots.specs.Stages.{AsTold, HasTrace, IsTraceOver, LeftOver};
 

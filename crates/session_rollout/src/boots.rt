@@ -111,7 +111,7 @@ where
     }
 }
 
-/// Behind the last bootstrap, or where the plan has none, its items come up. Where none ran those of before may stand.
+/// Behind the last bootstrap, or where the plan has none, its items come up. Where no bootstrap ran, the components of before may stand.
 pub(crate) fn end_boots<D: Disk, J: Journal + Drop, K: Sink, R: Runner, S: Supervise>(
     state: Booting<J>,
     items: S::Ready,

@@ -120,7 +120,7 @@ pub(crate) fn stop_all<R: Runner, S: Supervise>(runner: &mut R, supervisor: &mut
 }
 
 /// The inbox was asked often enough: what is due is done once more, so that each failure is heard of, and all components are
-/// stopped. Tells whether they were: at the end of the clock all children are killed.
+/// stopped. Answers whether they were: at the end of the clock all children are killed.
 pub(crate) fn stop_spent<R: Runner, S: Supervise>(runner: &mut R, supervisor: &mut S) -> bool
     requires up { (d : Device) × AreUp d (S.world supervisor.old) }
     requires from_state { (p : SessionState) × (d : Device) × AsTold R.Runner runner.old (IsServing p d (S.world supervisor.old)) × (p.turns ≡ 0) }

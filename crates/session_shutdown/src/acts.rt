@@ -12,7 +12,7 @@ use components::Supervise;
 use session_acts::{Did, act};
 use step_runner::Runner;
 
-/// Takes the next act. Tells whether there was none. A failure is none: who leaves owes none.
+/// Takes the next act. Answers whether there was none. A failure is none: who leaves owes none.
 fn take_act<R: Runner, S: Supervise>(runner: &mut R, supervisor: &mut S, now: u64) -> bool
     requires now { (R.told runner.old ≡ now) × (now < 2 ^ 62) }
     requires drives { AreDriven (S.world supervisor.old) }

@@ -18,7 +18,7 @@ use components::Supervise;
 use session_acts::pass;
 use step_runner::Runner;
 
-/// Asks for the moment, takes every act, and waits where one still stands: then a child ended, or time went on. Tells whether
+/// Asks for the moment, takes every act, and waits where one still stands: then a child ended, or time went on. Answers whether
 /// none stands.
 pub(crate) fn turn<R: Runner, S: Supervise>(runner: &mut R, supervisor: &mut S) -> bool
     requires drives { AreDriven (S.world supervisor.old) }

@@ -8,7 +8,7 @@ use Rattle.session_startup.specs.Runs.{IsAtTurnStart, HasNoActLeft}
 use Rattle.session_startup.specs.declared.turns.Turned.{Turned}
 use Rattle.session_startup.specs.declared.turns.Turned.TheVariants as turned
 
--- it goes on, or that came of it
+-- the stage goes on, or has come to this
 abbrev pub TurnLeft : Option Turned → SessionState → Device → Components → Told → List ℕ → Type 0
 TurnLeft None q d world told living = IsAtTurnStart q d world told living
 TurnLeft (Some turned.Settled) q d world told living = HasNoActLeft q d false world told living × (is_settled q.world ≡ true)

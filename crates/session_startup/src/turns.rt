@@ -34,7 +34,7 @@ pub(crate) enum Turned {
     Broken,
 }
 
-/// Takes the next act, and records it where it is a failure. Tells whether none is left.
+/// Takes the next act, and records it where it is a failure. Answers whether none is left.
 fn take_act<D: Disk, J: Journal + Drop, K: Sink, R: Runner, S: Supervise>(
     state: Coming<J>,
     disk: &mut D,

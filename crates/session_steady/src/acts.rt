@@ -15,7 +15,7 @@ use components::Supervise;
 use session_acts::{Did, act, orderly_laws};
 use step_runner::Runner;
 
-/// Takes the next act. Tells whether there was none. Of a failure nothing is recorded and nothing is said: the supervisor
+/// Takes the next act. Answers whether there was none. Of a failure nothing is recorded and nothing is said: the supervisor
 /// counts it, and tries again or breaks the component.
 fn take_act<R: Runner, S: Supervise>(runner: &mut R, supervisor: &mut S, now: u64) -> bool
     requires now { (R.told runner.old ≡ now) × (now + 1 < 2 ^ 62) }

@@ -26,7 +26,7 @@ use Rattle.session_boots.specs.Traces.{IsTrace}
 use Rattle.session_boots.proofs.Entries.{never}
 use Rattle.session_transitions.specs.Fails.{IsGivenUp}
 use Rattle.session_transitions.proofs.Closing.{no_other}
-use Rattle.session_transitions.proofs.Turned.{back_went}
+use Rattle.session_transitions.proofs.RolledBack.{back_went}
 
 abbrev pub Begin : TraceEvent
 Begin = Recorded stored.Activating

@@ -4,7 +4,7 @@ pub mod Stage
 pub mod Entered
 pub mod Policies
 pub mod Closing
-pub mod Turned
+pub mod RolledBack
 pub mod Rising
 pub mod Standing
 pub mod Begun

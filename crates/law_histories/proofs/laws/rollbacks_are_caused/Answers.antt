@@ -1,7 +1,7 @@
 use Rattle.law_histories.proofs.BootEnds.{boots_ended}
 use Rattle.law_histories.proofs.StepEnds.{failures_ended}
 use Rattle.law_histories.proofs.Standing.{records_stand, rollbacks_plain}
-use Rattle.law_histories.proofs.Turning.{closes_caused, runs_close_caused}
+use Rattle.law_histories.proofs.RollingBack.{closes_caused, runs_close_caused}
 use Rattle.law_histories.proofs.laws.rollbacks_are_caused.Goals as goal
 
 pub returns-clause-stand : goal.returns-clause-stand

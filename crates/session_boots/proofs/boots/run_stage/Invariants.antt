@@ -9,7 +9,7 @@ use Rattle.session_boots.specs.Lines.{lines_of}
 use Rattle.session_boots.specs.Made.{AreStageBoots}
 use Rattle.session_boots.specs.Staged.{OwnsStage}
 use Rattle.session_boots.specs.Stands.{IsAtBootStage}
-use Rattle.session_boots.specs.Turns.{steps_left}
+use Rattle.session_boots.specs.AfterBoot.{steps_left}
 use Rattle.session_boots.specs.Traces.{IsTrace}
 use Rattle.session_boots.proofs.boots.run_stage.Given as goal
 

@@ -57,16 +57,16 @@ returns-in-Ok-clause-trace g c = λ p may.
     let passes = pass_acts p m old now old.list mid.list may (omega (arith, past, c.moment-now.ensures.later)) c.moment-now.ensures.list in
     let q = leaves p (ReadClock now) in
     let s = c.is_skipped.ensures.starts c.if-is_skipped.false q (pass_probe p m old mid now may c.moment-now.ensures.moment c.moment-now.ensures.asked) in
-    let place = state_after q s.0 in
+    let state_now = state_after q s.0 in
     let notes = c.in-Ok.ensures.ok in
     let entry_is = Booted (entry asked (seen.Started c.in-Ok.child m.command)) m in
-    let starts = started_acts place m asked begun c.in-Ok.child m.command s.2 refl notes in
+    let starts = started_acts state_now m asked begun c.in-Ok.child m.command s.2 refl notes in
     let at = c.is_skipped.ensures.moment ∙ c.moment-now.ensures.moment in
     let until_it = ap (λ (x : ℕ). deadline_after m.limit_ms x) at ∙ c.deadline_of-deadline.ensures.deadline in
-    let alive = started_alive place m asked begun c.in-Ok.child m.command c.deadline_of-deadline.result s.2 notes until_it in
-    let w = c.await_end.ensures.trace (leaves place entry_is) m alive in
-    let world = now_world place asked s.2.up_to_date in
-    let first = ended_on place (entry_is ∷ []) w.0 asked begun new c.await_end.result asked.moment starts world refl (record { acts = w.1; ended = w.2 }) in
+    let alive = started_alive state_now m asked begun c.in-Ok.child m.command c.deadline_of-deadline.result s.2 notes until_it in
+    let w = c.await_end.ensures.trace (leaves state_now entry_is) m alive in
+    let world = now_world state_now asked s.2.up_to_date in
+    let first = ended_on state_now (entry_is ∷ []) w.0 asked begun new c.await_end.result asked.moment starts world refl (record { acts = w.1; ended = w.2 }) in
     let one = ended_on q s.0 (w.0 ++ entry_is ∷ []) mid asked new c.await_end.result now s.1 s.3.world s.3.generation first in
     let all = ended_on p (ReadClock now ∷ []) ((w.0 ++ entry_is ∷ []) ++ s.0) old mid new c.await_end.result now passes refl refl one in
     (((w.0 ++ entry_is ∷ []) ++ s.0) ++ ReadClock now ∷ [], all.acts, all.ended)

@@ -2,8 +2,8 @@ use Rattle.std.proofs.Common.{[], ◌∷◌, refl}
 use Rattle.deploy_state.proofs.Steps.{some_break}
 use Rattle.deploy_state.specs.States.{broken_device}
 use Rattle.histories.specs.TraceEvents.{Recorded}
-use Rattle.session_transitions.proofs.Turned.{boot_bare, stage_kept, boot_went, break_allowed, is_way, items_given_up, items_rolled, items_went, no_line}
-use Rattle.session_transitions.proofs.Turned.{back_doubt}
+use Rattle.session_transitions.proofs.RolledBack.{boot_bare, stage_kept, boot_went, break_allowed, is_way, items_given_up, items_rolled, items_went, no_line}
+use Rattle.session_transitions.proofs.RolledBack.{back_doubt}
 use Rattle.session_transitions.proofs.breaking.begin_rollback.Goals as goal
 
 -- ---- from among bootstraps

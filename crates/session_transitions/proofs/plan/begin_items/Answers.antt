@@ -2,7 +2,7 @@ use Rattle.std.proofs.Common.{[], ◌∷◌, refl}
 use Rattle.records.specs.Stored as stored
 use Rattle.deploy_state.specs.States.{activating_device, booting_device}
 use Rattle.session_transitions.proofs.Begun.{Begin, begin_went, begun_given_up, begun_opened, can_activate}
-use Rattle.session_transitions.proofs.Turned.{back_doubt}
+use Rattle.session_transitions.proofs.RolledBack.{back_doubt}
 use Rattle.session_transitions.proofs.plan.begin_items.Goals as goal
 
 pub activate-requires-clause-may : goal.activate-requires-clause-may

@@ -24,9 +24,9 @@ use Rattle.histories.specs.TraceEvents.{TraceEvent, Recorded, records_of}
 use Rattle.histories.specs.States.{SessionState, state_after, takes_document}
 use Rattle.histories.specs.Follows.{IsProper}
 use Rattle.law_histories.specs.Ends.{is_step_failure}
-use Rattle.law_histories.specs.Turned.{WasTaken, IsFailedLast}
-use Rattle.law_histories.specs.Turned.{is_at, fails_at, failures_at, FailedSoOften, HasCause, HasBegunRollback, is_way_back, HasRolledBack}
-use Rattle.law_histories.specs.Turned.{IsCaused, ClosesCaused, RunsCloseCaused}
+use Rattle.law_histories.specs.Rollbacks.{WasTaken, IsFailedLast}
+use Rattle.law_histories.specs.Rollbacks.{is_at, fails_at, failures_at, FailedSoOften, HasCause, HasBegunRollback, is_way_back, HasRolledBack}
+use Rattle.law_histories.specs.Rollbacks.{IsCaused, ClosesCaused, RunsCloseCaused}
 use Rattle.law_histories.proofs.Growing.{all_more, more, none_more}
 use Rattle.law_histories.proofs.Histories.{Runs, Steps, along, history_at, run_before}
 use Rattle.law_histories.proofs.Facts.{clash, no_some, none_at, some_same}

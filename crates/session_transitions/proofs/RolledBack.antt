@@ -115,7 +115,7 @@ follows p d r device is clear cut over =
     let way = is_plain p.device r (subst (λ (x : Device). IsBreak x r) (sym device) is) in
     subst (λ (x : Record). MayFollow p (Recorded x)) (sym way.0.2) (follows_by p way.0.0 way.0.1 way.1 clear cut over)
 
--- ---- where it leaves the call
+-- ---- the state in which it leaves the call
 
 abbrev rolled_state : SessionState → Device → SessionState
 rolled_state p e = record p { device = e; generation = generation_of p.world; taken = p.taken || false; probed = false; over = false }
@@ -161,7 +161,7 @@ clear_in d r is c p boot end = by d.pending is
 
 -- ---- from among bootstraps
 
--- where a record leaves it with which another stage begins
+-- the state in which the record leaves it with which another stage begins
 pub stage_rolled : (p : SessionState) (d e : Device) (world : Components) (told : Told) (living : List ℕ) → IsAtBootStage p d world told living →
     (r : Record) → e ≡ applied d r → IsAtBootStage (rolled_state p (applied p.device r)) e world told living
 stage_rolled p d e world told living f r same = record {
