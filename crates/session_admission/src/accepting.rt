@@ -1,12 +1,11 @@
 //! Accepting a plan.
 ghost use Rattle.std.specs.Prelude.{◌≡◌, ◌≤◌, ◌+◌, ℕ, List, [], ◌∷◌, IfOk, IsErrOf};
 ghost use Rattle.nuc_base.specs.Faults.{Rose};
-ghost use Rattle.disk_model.specs.Disk.{Image, HasLeft};
+ghost use Rattle.disk_model.specs.Disk.{Image};
 ghost use Rattle.records.specs.Stored as stored;
 ghost use Rattle.records.specs.Stored.{plan_view};
 ghost use Rattle.device.specs.Lawful.{Allowed, applied};
 ghost use Rattle.device.specs.Regularity.{IsRegularRecord};
-ghost use Rattle.deploy_state.specs.Owned.{LeavesEither, LeavesSame};
 ghost use Rattle.deploy_state.specs.Accepting.{idle_log};
 ghost use Rattle.deploy_state.specs.States.{OwnsIdle, idle_device};
 ghost use Rattle.deploy_state.specs.Turning.{IsTooFar, plan_bytes, start_of};
@@ -16,7 +15,7 @@ ghost use Rattle.histories.specs.TraceEvents.{TraceEvent, records_of};
 ghost use Rattle.histories.specs.States.{SessionState};
 ghost use Rattle.session_boots.specs.Ends.{HasLines};
 ghost use Rattle.session_admission.specs.Accepts.{HasTaken, OwnsTaken, IsAcceptedAt, IsFullAt, IsFullOrShort, IsOpen, IsTakenOf, TakenLeft, answer_of};
-ghost use Rattle.deploy_state.specs.Objects.{OwnsOver, KeepsOthers};
+ghost use Rattle.deploy_state.specs.Objects.{KeepsOthers, LeavesDevice, LeavesOneOf, OwnsOver};
 ghost use Rattle.session_boots.specs.Stages.{IsTraceOver, LeftOver};
 
 use deploy_state::{AcceptRefusal, Booting, Idle};
@@ -70,11 +69,9 @@ pub fn accept_plan<D: Disk, J: Journal + Drop, K: Sink>(
         × LeftOver D.Disk J.Journal disk.new p h (λ x q. TakenLeft x q world told living) result
         × (records_of h ≡ stored.Accepted (plan_view plan) ∷ []) }
     // Whatever becomes of it, a crash at any moment leaves the device with it or without.
-    ensures moments { HasLeft D.moment D.left_since disk.old disk.new
-        (LeavesEither D.may_leave J.files J.entries disk.old (idle_device idle) (applied (idle_device idle) (stored.Accepted (plan_view plan)))) }
+    ensures moments { LeavesOneOf D.Disk J.Journal disk.old disk.new (idle_device idle) (applied (idle_device idle) (stored.Accepted (plan_view plan))) }
     // Where the plan is given back it leaves it without.
-    ensures unmade { ¬ (HasTaken result) → HasLeft D.moment D.left_since disk.old disk.new
-        (LeavesSame D.may_leave J.files J.entries disk.old (idle_device idle)) }
+    ensures unmade { ¬ (HasTaken result) → LeavesDevice D.Disk J.Journal disk.old disk.new (idle_device idle) }
     ensures taken { IfOk result (IsTakenOf (idle_device idle) (plan_view plan)) }
     ensures held { IfOk result (λ x. OwnsOver D.Disk J.Journal OwnsTaken x disk.new) }
     ensures silent { ¬ (HasTaken result) → sink.new ≡ sink.old }

@@ -1,15 +1,14 @@
 //! The states of a deployment in which bootstrap steps run.
 ghost use Rattle.std.specs.Prelude.{◌≡◌, OnOk, IfOk, IsOkAnd, option_map};
 ghost use Rattle.nuc_base.specs.Faults.{HasCause};
-ghost use Rattle.disk_model.specs.Disk.{HasLeft};
 ghost use Rattle.records.specs.Stored.{Record};
 ghost use Rattle.device.specs.Devices.{device_view};
 ghost use Rattle.device.specs.Lawful.{applied};
 ghost use Rattle.device.specs.Marks.{IsMark};
 ghost use Rattle.device.specs.declared.mark.Mark.TheVariants as marks;
-ghost use Rattle.deploy_state.specs.Objects.{OwnsOver, KeepsOthers};
+ghost use Rattle.deploy_state.specs.Objects.{KeepsOthers, LeavesOneOf, OwnsOver};
 ghost use Rattle.deploy_state.specs.Fields.{CanBegin, IsBegun, has_failed, next_name};
-ghost use Rattle.deploy_state.specs.Owned.{LeavesEither, MayMark};
+ghost use Rattle.deploy_state.specs.Owned.{MayMark};
 ghost use Rattle.deploy_state.specs.States.{device_of};
 ghost use Rattle.deploy_state.specs.declared.state.Hand.{Hand};
 ghost use Rattle.session_boots.specs.Staged.{OwnsStage};
@@ -46,8 +45,7 @@ pub(crate) trait BootStage<J: Journal + Drop>: Drop + Sized {
         requires held { OwnsOver D.Disk J.Journal (OwnsStage hand is_staged) self disk.old }
         requires may { CanBegin (device_of (hand self)) }
         ensures moments { (r : Record) → IsMark (device_of (hand self)) marks.BootBegun r →
-            HasLeft D.moment D.left_since disk.old disk.new (LeavesEither D.may_leave J.files J.entries disk.old (device_of (hand self))
-            (applied (device_of (hand self)) r)) }
+            LeavesOneOf D.Disk J.Journal disk.old disk.new (device_of (hand self)) (applied (device_of (hand self)) r) }
         ensures taken { (r : Record) → IsMark (device_of (hand self)) marks.BootBegun r →
             IfOk result (λ s. device_of (hand s) ≡ applied (device_of (hand self)) r) }
         ensures held { IfOk result (λ s. OwnsOver D.Disk J.Journal (OwnsStage hand is_staged) s disk.new) }
@@ -61,8 +59,7 @@ pub(crate) trait BootStage<J: Journal + Drop>: Drop + Sized {
         requires held { OwnsOver D.Disk J.Journal (OwnsStage hand is_staged) self disk.old }
         requires may { MayMark (device_of (hand self)) (marks.BootEnded exit) }
         ensures moments { (r : Record) → IsMark (device_of (hand self)) (marks.BootEnded exit) r →
-            HasLeft D.moment D.left_since disk.old disk.new (LeavesEither D.may_leave J.files J.entries disk.old (device_of (hand self))
-            (applied (device_of (hand self)) r)) }
+            LeavesOneOf D.Disk J.Journal disk.old disk.new (device_of (hand self)) (applied (device_of (hand self)) r) }
         ensures taken { (r : Record) → IsMark (device_of (hand self)) (marks.BootEnded exit) r →
             IfOk result (λ s. device_of (hand s) ≡ applied (device_of (hand self)) r) }
         ensures held { IfOk result (λ s. OwnsOver D.Disk J.Journal (OwnsStage hand is_staged) s disk.new) }

@@ -1,15 +1,13 @@
 // The two stages in which items come up, as one.
 ghost use Rattle.std.specs.Prelude.{◌≡◌, true, false, OnOk, IfOk};
 ghost use Rattle.nuc_base.specs.Faults.{HasCause};
-ghost use Rattle.disk_model.specs.Disk.{HasLeft};
 ghost use Rattle.records.specs.Stored.{StepFailed};
 ghost use Rattle.device.specs.Devices.{device_view};
 ghost use Rattle.device.specs.Lawful.{Allowed, applied};
-ghost use Rattle.deploy_state.specs.Owned.{LeavesEither};
 ghost use Rattle.histories.specs.Phases.{duty_of};
 ghost use Rattle.histories.specs.Waits.{has_three};
 ghost use Rattle.session_startup.specs.Coming.{OwnsComing, coming_device, is_plan};
-ghost use Rattle.deploy_state.specs.Objects.{OwnsOver, KeepsOthers};
+ghost use Rattle.deploy_state.specs.Objects.{KeepsOthers, LeavesOneOf, OwnsOver};
 
 use deploy_state::{Activating, Rolling, Stopped};
 use device::Device;
@@ -56,8 +54,7 @@ impl<J: Journal + Drop> Coming<J> {
     ) -> Result<Coming<J>, Stopped<J>>
         requires held { OwnsOver D.Disk J.Journal OwnsComing self disk.old }
         requires may { Allowed (coming_device self) (StepFailed name.now step exit) }
-        ensures moments { HasLeft D.moment D.left_since disk.old disk.new (LeavesEither D.may_leave J.files J.entries disk.old (coming_device self)
-            (applied (coming_device self) (StepFailed name.now step exit))) }
+        ensures moments { LeavesOneOf D.Disk J.Journal disk.old disk.new (coming_device self) (applied (coming_device self) (StepFailed name.now step exit)) }
         ensures taken { IfOk result (λ s. coming_device s ≡ applied (coming_device self) (StepFailed name.now step exit)) }
         ensures held { IfOk result (λ s. OwnsOver D.Disk J.Journal OwnsComing s disk.new) }
         ensures same { IfOk result (λ s. is_plan s ≡ is_plan self) }

@@ -2,13 +2,12 @@
 ghost use Rattle.std.specs.Prelude.{◌≡◌, ℕ, Bool, List, IfOk, OnOk};
 ghost use Rattle.nuc_base.specs.Faults.{HasCause};
 ghost use Rattle.nuc_base.specs.declared.kinds.Outcome.{Outcome};
-ghost use Rattle.disk_model.specs.Disk.{Image, HasLeft};
+ghost use Rattle.disk_model.specs.Disk.{Image};
 ghost use Rattle.records.specs.Stored as stored;
 ghost use Rattle.device.specs.Devices.{Device};
 ghost use Rattle.device.specs.Lawful.{Allowed, applied};
-ghost use Rattle.deploy_state.specs.Owned.{LeavesEither};
 ghost use Rattle.deploy_state.specs.States.{OwnsIdle, idle_device};
-ghost use Rattle.deploy_state.specs.Objects.{OwnsOver, KeepsOthers};
+ghost use Rattle.deploy_state.specs.Objects.{KeepsOthers, LeavesOneOf, OwnsOver};
 
 use deploy_state::{Activating, Backing, Booting, Idle, Rolling, Stopped};
 use disk_model::Disk;
@@ -32,8 +31,7 @@ pub trait Close<J: Journal + Drop>: PendingState<J> {
     fn close<D: Disk>(self, disk: &mut D) -> Result<Idle<J>, Stopped<J>>
         requires held { OwnsOver D.Disk J.Journal Self.owns self disk.old }
         requires may { Allowed (Self.device self) (stored.Closed (outcome self)) }
-        ensures moments { HasLeft D.moment D.left_since disk.old disk.new (LeavesEither D.may_leave J.files J.entries disk.old (Self.device self)
-            (applied (Self.device self) (stored.Closed (outcome self)))) }
+        ensures moments { LeavesOneOf D.Disk J.Journal disk.old disk.new (Self.device self) (applied (Self.device self) (stored.Closed (outcome self))) }
         ensures taken { IfOk result (λ s. idle_device s ≡ applied (Self.device self) (stored.Closed (outcome self))) }
         ensures held { IfOk result (λ s. OwnsOver D.Disk J.Journal OwnsIdle s disk.new) }
         ensures others { KeepsOthers D.Disk J.Journal disk.old disk.new }

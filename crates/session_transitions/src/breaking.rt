@@ -1,12 +1,10 @@
 //! A deployment fails and is rolled back: the way back begins.
 ghost use Rattle.std.specs.Prelude.{◌≡◌, ◌≤◌, [], ℕ, List, IfOk, IsErrOf, OnErr, OnOk};
 ghost use Rattle.nuc_base.specs.Faults.{HasCause, Rose};
-ghost use Rattle.disk_model.specs.Disk.{HasLeft};
 ghost use Rattle.records.specs.Stored.{Record};
 ghost use Rattle.device.specs.Lawful.{applied};
 ghost use Rattle.device.specs.Sound.{IsSound};
 ghost use Rattle.deploy_state.specs.Fields.{CanBreakOff, IsBreak};
-ghost use Rattle.deploy_state.specs.Owned.{LeavesEither};
 ghost use Rattle.deploy_state.specs.States.{OwnsBrokenOff, broken_device};
 ghost use Rattle.step_runner.specs.Entries.{Told};
 ghost use Rattle.components.specs.Components.{Components};
@@ -18,7 +16,7 @@ ghost use Rattle.session_boots.specs.Ends.{IsOne};
 ghost use Rattle.session_boots.specs.Stands.{IsAtBootStage};
 ghost use Rattle.session_startup.specs.Ended.{HasBroken};
 ghost use Rattle.session_transitions.specs.Fails.{DeviceAfterBreak, IsGivenUp, IsAtRollbackStart};
-ghost use Rattle.deploy_state.specs.Objects.{OwnsOver, KeepsOthers};
+ghost use Rattle.deploy_state.specs.Objects.{KeepsOthers, LeavesOneOf, OwnsOver};
 ghost use Rattle.session_boots.specs.Stages.{IsTraceOver, LeftOver};
 
 use deploy_state::{Activating, Booting, BrokeOff, Stopped};
@@ -34,8 +32,7 @@ pub trait BreakOff<J: Journal + Drop>: PendingState<J> {
         requires held { OwnsOver D.Disk J.Journal Self.owns self disk.old }
         requires may { CanBreakOff (Self.device self) }
         ensures moments { (r : Record) → IsBreak (Self.device self) r →
-            HasLeft D.moment D.left_since disk.old disk.new (LeavesEither D.may_leave J.files J.entries disk.old (Self.device self)
-            (applied (Self.device self) r)) }
+            LeavesOneOf D.Disk J.Journal disk.old disk.new (Self.device self) (applied (Self.device self) r) }
         ensures taken { (r : Record) → IsBreak (Self.device self) r → IfOk result (λ s. broken_device s ≡ applied (Self.device self) r) }
         ensures held { IfOk result (λ s. OwnsOver D.Disk J.Journal OwnsBrokenOff s disk.new) }
         ensures others { KeepsOthers D.Disk J.Journal disk.old disk.new }
