@@ -1,4 +1,1 @@
-pub mod Ends
 pub mod Real
-pub mod Started
-pub mod Untold

@@ -4,9 +4,8 @@ ghost use Rattle.edges.specs.Inboxes.{unanswered};
 ghost use Rattle.edges.specs.Waiting.{IsShort};
 ghost use Rattle.host_edges.specs.Real.{inbox_answered, inbox_faults};
 
-use crate::documents::{is_file, json_names, read_prefix};
-use crate::paths::{Paths, sync_folder};
 use edges::{Answered, EdgeFault, Inbox, InboxFault, Incoming};
+use host_files::{Paths, is_file, json_names, read_prefix, sync_folder};
 use nuc_base::{Bytes, DOCUMENT_LIMIT, NoMemory};
 use std::alloc::Global;
 use std::fs::{File, Files};

@@ -3,9 +3,7 @@ ghost use Rattle.nuc_base.specs.Faults.{Rose};
 ghost use Rattle.library_core.specs.Library.{IsWithin, most_given};
 ghost use Rattle.host_edges.specs.Real.{library_faults};
 
-use crate::documents::{is_file, json_names, read_prefix};
-use crate::paths::Paths;
-use crate::window::read_full;
+use host_files::{Paths, is_file, json_names, read_full, read_prefix};
 use library_core::{Library, LibraryFault, Piece};
 use npm_ranges::Version;
 use nuc_base::{Bytes, Label, Name, NoMemory};

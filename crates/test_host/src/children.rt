@@ -1,4 +1,4 @@
-use host_edges::ShellRunner;
+use host_children::ShellRunner;
 use nuc_base::{Exit, List, NoMemory, Text};
 use std::alloc::Global;
 use std::os::unix::fs::{PermissionsExt, symlink};

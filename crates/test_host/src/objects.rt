@@ -1,6 +1,7 @@
 use disk_model::{Disk, DiskFault};
 use edges::{Inbox, Incoming};
-use host_edges::{Access, FileDisk, FolderInbox, FolderLibrary};
+use host_disk::{Access, FileDisk};
+use host_edges::{FolderInbox, FolderLibrary};
 use library_core::{Library, LibraryFault, Piece};
 use npm_ranges::Version;
 use nuc_base::{Label, Name};

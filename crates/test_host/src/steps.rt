@@ -1,7 +1,8 @@
 use crate::children::ended;
 use crate::objects::{FILE, lists, reads};
 use disk_model::{Disk, DiskFault};
-use host_edges::{Access, FileDisk, ShellRunner};
+use host_children::ShellRunner;
+use host_disk::{Access, FileDisk};
 use nuc_base::{Exit, NoMemory};
 use std::fs;
 use std::os::unix::fs::MetadataExt;

@@ -1,4 +1,4 @@
-use host_edges::absolute_words;
+use host_files::absolute_words;
 use std::alloc::{AllocError, Global};
 use std::env;
 use std::test::Fail;

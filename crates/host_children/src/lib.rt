@@ -1,0 +1,13 @@
+//! The real runner: children by the system's shell.
+//!
+//! It promises that it meets its trait with its list untold: a fault is answered where its count rose, and else not. What the
+//! system does is trusted.
+#![tactic(auto)]
+
+mod children;
+mod clock;
+mod output;
+mod programs;
+mod runner;
+
+pub use runner::ShellRunner;

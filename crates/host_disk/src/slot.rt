@@ -1,0 +1,298 @@
+ghost use Rattle.std.specs.Prelude.{◌≤◌, length, IfOk};
+
+use crate::access::Access;
+use crate::store::FILE_MODE;
+use host_files::{Paths, Window, read_full};
+use nuc_base::NoMemory;
+use std::alloc::Global;
+use std::fs::{File, Files, OpenOptions};
+use std::io;
+use std::io::ErrorKind;
+use std::os::unix::fs::{FileExt, OpenOptionsExt};
+
+/// How many bytes of a journal's file tell in which turn it was begun: those of its first entry up to the turn's number.
+const BEGINNING: usize = 14;
+
+/// An open gate, with which an entry begins.
+const OPEN_GATE: u8 = 1;
+
+/// With which byte the payload of an entry begins that accepts a deployment, without a revision and with one.
+const ACCEPTED: u8 = 0x12;
+
+const ACCEPTED_REVISED: u8 = 0x1d;
+
+/// How many bytes stand ready behind such an entry: at most 1,283 entries follow it up to the close, none of more than 266
+/// bytes, and whole blocks are taken.
+const ROOM: u64 = 344_064;
+
+/// How an open file stands to what the medium keeps.
+#[derive(Clone, Copy, Debug, PartialEq, Eq)]
+enum Kept {
+    /// Nothing is known: an earlier program may have left it unsynced.
+    Unknown,
+    /// It was written or cut since its last sync.
+    Changed,
+    /// It was synced, and has not changed.
+    Synced,
+}
+
+/// A file that stays open up to its sync, so that the descriptor that wrote is the one that is synced.
+#[derive(Drop)]
+struct Opened {
+    file: File,
+    kept: Kept,
+    access: Access,
+}
+
+/// A file that is kept open.
+#[derive(Drop)]
+pub(crate) struct Slot {
+    opened: Option<Opened>,
+    window: Window,
+    /// The first bytes of a journal's file as a reader found them with an entry.
+    beginning: Option<[u8; BEGINNING]>,
+    /// Whether readers wait while it is changed.
+    is_shared: bool,
+}
+
+impl Slot {
+    pub fn new(alloc: Global, is_shared: bool) -> Result<Slot, NoMemory> {
+        Ok(Slot {
+            opened: None,
+            window: Window::new(alloc)?,
+            beginning: None,
+            is_shared,
+        })
+    }
+
+    /// Closes the file, which is to have nothing unsynced.
+    pub fn close(&mut self) {
+        self.opened = None;
+        self.window.forget();
+    }
+
+    pub fn is_changed(&self) -> bool {
+        match &self.opened {
+            Some(opened) => opened.kept == Kept::Changed,
+            None => false,
+        }
+    }
+
+    /// Opens the file where it is there and not open yet for what is done with it.
+    pub fn open<R: Files<File = File>>(
+        &mut self,
+        files: &R,
+        access: Access,
+        paths: &mut Paths<'_>,
+        name: &str,
+    ) -> io::Result<()> {
+        if self.is_open_for(access) {
+            return Ok(());
+        }
+        let path = paths.plain_file(files, name)?;
+        match options(access).open(files, path) {
+            Ok(file) => {
+                self.keep(file, access);
+                Ok(())
+            }
+            Err(error) if error.kind() == ErrorKind::NotFound => Ok(()),
+            Err(error) => Err(error),
+        }
+    }
+
+    /// Whether the file is open, and may be written where that is what is done with it.
+    pub fn is_open_for(&self, access: Access) -> bool {
+        match &self.opened {
+            Some(opened) => access == Access::Read || opened.access == Access::Write,
+            None => false,
+        }
+    }
+
+    /// Makes and opens the file, which is not there.
+    pub fn create<R: Files<File = File>>(
+        &mut self,
+        files: &R,
+        access: Access,
+        paths: &mut Paths<'_>,
+        name: &str,
+    ) -> io::Result<()> {
+        let path = paths.plain_file(files, name)?;
+        let file = options(access).create_new(true).open(files, path)?;
+        self.keep(file, access);
+        Ok(())
+    }
+
+    fn keep(&mut self, file: File, access: Access) {
+        self.opened = Some(Opened {
+            file,
+            kept: Kept::Unknown,
+            access,
+        });
+        self.window.forget();
+    }
+
+    /// How many bytes the file has. One that is not there has none.
+    pub fn length(&self) -> io::Result<u64> {
+        match &self.opened {
+            Some(opened) => Ok(opened.file.metadata()?.len()),
+            None => Ok(0),
+        }
+    }
+
+    /// Reads as many bytes as there are from that place on, up to the slice.
+    pub fn read(&mut self, access: Access, at: u64, into: &mut [u8]) -> io::Result<usize>
+        ensures { IfOk result (λ n. n ≤ length into.old) }
+    {
+        let Some(opened) = &self.opened else {
+            return Ok(0);
+        };
+        if !self.is_shared || access == Access::Write || self.window.has(at, into.len()) {
+            return self.window.read(&opened.file, at, into);
+        }
+        opened.file.lock_shared()?;
+        let count = read_one_turn(
+            &mut self.beginning,
+            &mut self.window,
+            &opened.file,
+            at,
+            into,
+        );
+        opened.file.unlock()?;
+        count
+    }
+
+    /// Writes all of it at that place. Before a journal takes the entry that accepts a deployment, room is made for all
+    /// entries that may follow up to its close.
+    pub fn write(&mut self, at: u64, bytes: &[u8]) -> io::Result<()> {
+        self.window.forget();
+        self.change()?;
+        let Some(opened) = &self.opened else {
+            return Err(io::Error::from(ErrorKind::NotFound));
+        };
+        if self.is_shared && accepts(bytes) {
+            let end = at.saturating_add(bytes.len() as u64);
+            make_room(&opened.file, self.window.zeros(), end)?;
+        }
+        opened.file.write_all_at(bytes, at)
+    }
+
+    /// Keeps so many bytes of the file, which is open.
+    pub fn cut(&mut self, len: u64) -> io::Result<()> {
+        self.window.forget();
+        self.change()?;
+        match &self.opened {
+            Some(opened) => opened.file.set_len(len),
+            None => Err(io::Error::from(ErrorKind::NotFound)),
+        }
+    }
+
+    /// The file changes from now on until its next sync: readers wait.
+    fn change(&mut self) -> io::Result<()> {
+        let Some(opened) = &mut self.opened else {
+            return Ok(());
+        };
+        if self.is_shared && opened.kept != Kept::Changed {
+            opened.file.lock()?;
+        }
+        opened.kept = Kept::Changed;
+        Ok(())
+    }
+
+    /// Makes the bytes stable where they may not be. Readers go on.
+    pub fn sync(&mut self) -> io::Result<()> {
+        let Some(opened) = &mut self.opened else {
+            return Ok(());
+        };
+        if opened.kept == Kept::Synced {
+            return Ok(());
+        }
+        opened.file.sync_data()?;
+        if self.is_shared && opened.kept == Kept::Changed {
+            opened.file.unlock()?;
+        }
+        opened.kept = Kept::Synced;
+        Ok(())
+    }
+}
+
+/// Whether a write to a journal's file is the payload of an entry that accepts a deployment. The other writes are a gate of
+/// 0 or 1, a length, which begins with at most 2, and payloads of other records.
+fn accepts(bytes: &[u8]) -> bool {
+    match bytes.first() {
+        Some(first) => *first == ACCEPTED || *first == ACCEPTED_REVISED,
+        None => false,
+    }
+}
+
+/// Sees to it that the file goes on behind this place for as long as the entries up to a close may, by zeros, which mean
+/// nothing there. Where it does, nothing is written. As much again is taken where that is to be had, so that the next
+/// deployments find it. Where there is no room, the file is as before.
+fn make_room(file: &File, zeros: &[u8], end: u64) -> io::Result<()> {
+    let length = file.metadata()?.len();
+    let least = end.saturating_add(ROOM);
+    if length >= least {
+        return Ok(());
+    }
+    lengthen(file, zeros, length, least)?;
+    let _more = lengthen(file, zeros, least, least.saturating_add(ROOM));
+    Ok(())
+}
+
+/// Lengthens the file by zeros that are written, so that the system keeps room for them. Where it has none, the file is
+/// cut back.
+fn lengthen(file: &File, zeros: &[u8], from: u64, to: u64) -> io::Result<()> {
+    match write_zeros(file, zeros, from, to) {
+        Ok(()) => Ok(()),
+        Err(error) => {
+            file.set_len(from)?;
+            Err(error)
+        }
+    }
+}
+
+/// Writes zeros from one place up to another, as many at a time as are given.
+fn write_zeros(file: &File, zeros: &[u8], from: u64, to: u64) -> io::Result<()> {
+    let mut at = from;
+    for _ in 0..u64::MAX {
+        let left = usize::try_from(to.saturating_sub(at)).unwrap_or(usize::MAX);
+        let count = left.min(zeros.len());
+        if count == 0 {
+            break;
+        }
+        file.write_all_at(&zeros[..count], at)?;
+        at = at.saturating_add(count as u64);
+    }
+    Ok(())
+}
+
+fn options(access: Access) -> OpenOptions {
+    let mut options = OpenOptions::new();
+    options
+        .read(true)
+        .write(access == Access::Write)
+        .mode(FILE_MODE);
+    options
+}
+
+/// Reads where the file was not begun anew since its first entry was seen: what was read before would then be of another
+/// state of the journal.
+fn read_one_turn(
+    beginning: &mut Option<[u8; BEGINNING]>,
+    window: &mut Window,
+    file: &File,
+    at: u64,
+    into: &mut [u8],
+) -> io::Result<usize>
+    ensures { IfOk result (λ n. n ≤ length into.old) }
+{
+    let mut found = [0; BEGINNING];
+    read_full(file, 0, &mut found)?;
+    match beginning {
+        Some(seen) if *seen != found => return Err(io::Error::from(ErrorKind::InvalidData)),
+        _ => {}
+    }
+    if found[0] == OPEN_GATE {
+        *beginning = Some(found);
+    }
+    window.read(file, at, into)
+}

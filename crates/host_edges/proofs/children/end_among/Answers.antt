@@ -1,8 +1,0 @@
-use Rattle.std.proofs.Common.{◌∙◌}
-use Rattle.host_edges.proofs.Numbers.{kept_set}
-use Rattle.host_edges.proofs.children.end_among.Goals as goal
-
-pub loop-child-preserved : goal.loop-child-preserved
-loop-child-preserved g c =
-    kept_set _ c.args.number c.loop-child.child-items c.loop-child.child-index c.end_numbered.new.self c.child-item.result c.end_numbered.ensures.number
-    c.end_numbered.ensures.other ∙ c.loop-child.invariant

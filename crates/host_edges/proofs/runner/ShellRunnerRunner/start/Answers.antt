@@ -1,8 +1,0 @@
-use Rattle.host_edges.proofs.runner.ShellRunnerRunner.start.Goals as goal
-
-pub returns-in-Err-clause-err : goal.returns-in-Err-clause-err
-returns-in-Err-clause-err g c = record {
-  entry = λ now e. absurd (cc e);
-  moment = c.try_start.ensures.same.1;
-  asked = c.try_start.ensures.same.2;
-}
