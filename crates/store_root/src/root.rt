@@ -77,6 +77,7 @@ pub fn root_in<D: Disk>(alloc: Global, disk: &mut D) -> Result<Option<Text>, Roo
     match Slots::find(disk) {
         Ok(log) => first_root(alloc, &log, disk),
         Err(FindFault::Disk) => Err(RootFault::Disk),
-        Err(FindFault::NotInitialised) | Err(FindFault::Damaged(_)) => Ok(None),
+        Err(FindFault::NotInitialised) => Ok(None),
+        Err(FindFault::Damaged(_)) => Ok(None),
     }
 }
