@@ -4,71 +4,129 @@ ghost use Rattle.edges.specs.Inboxes.{unanswered};
 ghost use Rattle.edges.specs.Waiting.{IsShort};
 ghost use Rattle.host_edges.specs.Real.{inbox_answered, inbox_faults};
 
+use crate::tray::Tray;
 use edges::{Answered, EdgeFault, Inbox, InboxFault, Incoming};
-use host_files::{Paths, is_file, json_names, read_prefix, sync_folder};
-use nuc_base::{Bytes, DOCUMENT_LIMIT, NoMemory};
+use host_files::Event;
+use nuc_base::{Bytes, NoMemory};
 use std::alloc::Global;
 use std::fs::{File, Files};
+use std::io;
 use std::io::ErrorKind;
-use std::{fs, io};
-
-/// Where documents come in, below the folder of the device.
-const INBOX: &str = "inbox";
-
-/// The file that closes it.
-const CLOSED: &str = "closed";
-
-/// The most bytes of a document that are given: one more than a document may have.
-const MOST_GIVEN: usize = DOCUMENT_LIMIT + 1;
+use std::rt::Clock;
 
 /// The documents that were listed and are not done.
 #[derive(Drop)]
 struct Listed<'a, R: Files<File = File>> {
-    files: &'a R,
-    paths: Paths<'a>,
-    /// Their names, the last one first.
+    tray: Tray<'a, R>,
+    /// The name of the one that was taken and given.
+    in_hand: Option<String>,
+    /// The names of those that were taken before, the last one first.
+    taken: Vec<String>,
+    /// The names of those in the inbox, the last one first.
     names: Vec<String>,
 }
 
-impl<'a, R: Files<File = File> + AllocGlobal + Clone + Drop> Listed<'a, R> {
-    fn new(files: &'a R, root: &'a str) -> Result<Self, NoMemory> {
-        let alloc = files.alloc();
+impl<'a, R: Files<File = File> + Clock + AllocGlobal> Listed<'a, R> {
+    fn new(rt: &'a R, root: &'a str) -> Result<Self, NoMemory> {
+        let alloc = rt.alloc();
         Ok(Listed {
-            files,
-            paths: Paths::new(alloc, root)?,
+            tray: Tray::new(rt, root)?,
+            in_hand: None,
+            taken: Vec::new(alloc),
             names: Vec::new(alloc),
         })
     }
 
-    /// The first that is still there, or its first bytes. Those that are gone are forgotten.
-    fn first(&mut self, alloc: Global) -> io::Result<Option<Bytes>>
+    /// The bytes of the document in hand, if there is one. One that cannot be had any more is not in hand any more.
+    fn again(&mut self, alloc: Global) -> io::Result<Option<Bytes>>
         ensures { IfOk result (λ found. IfSome found (λ bytes. length bytes ≤ 524289)) }
     {
-        for _ in 0..self.names.len() {
-            let Some(name) = self.names.last() else {
+        let Some(name) = &self.in_hand else {
+            return Ok(None);
+        };
+        let bytes = self.tray.read(alloc, name.as_str())?;
+        if bytes.is_none() {
+            self.in_hand = None;
+        }
+        Ok(bytes)
+    }
+
+    /// Takes in hand what was taken under this name, and gives its bytes.
+    fn begin(&mut self, alloc: Global, name: String) -> io::Result<Option<Bytes>>
+        ensures { IfOk result (λ found. IfSome found (λ bytes. length bytes ≤ 524289)) }
+    {
+        self.in_hand = Some(name);
+        let found = self.again(alloc)?;
+        if let (Some(name), Some(bytes)) = (&self.in_hand, &found) {
+            self.tray.told.tell(&Event::Taken {
+                name: name.as_str(),
+                bytes: bytes.len(),
+            });
+        }
+        Ok(found)
+    }
+
+    /// The first of those that were taken before.
+    fn first_taken(&mut self, alloc: Global) -> io::Result<Option<Bytes>>
+        ensures { IfOk result (λ found. IfSome found (λ bytes. length bytes ≤ 524289)) }
+    {
+        for _ in 0..self.taken.len() {
+            let Some(name) = self.taken.pop() else {
                 break;
             };
-            let path = self.paths.entry(INBOX, name.as_str())?;
-            match read_prefix(alloc, self.files, path, MOST_GIVEN) {
-                Ok(bytes) => return Ok(Some(bytes)),
-                Err(error) if error.kind() == ErrorKind::NotFound => drop(self.names.pop()),
-                Err(error) => return Err(error),
+            let found = self.begin(alloc, name)?;
+            if found.is_some() {
+                return Ok(found);
             }
         }
         Ok(None)
     }
 
-    /// What comes next. Once all that were listed are done, the folder is listed again. Whether the inbox is closed is
+    /// The first of those in the inbox that can be taken.
+    fn first_new(&mut self, alloc: Global) -> io::Result<Option<Bytes>>
+        ensures { IfOk result (λ found. IfSome found (λ bytes. length bytes ≤ 524289)) }
+    {
+        for _ in 0..self.names.len() {
+            let Some(name) = self.names.pop() else {
+                break;
+            };
+            if !self.tray.take(name.as_str())? {
+                continue;
+            }
+            let found = self.begin(alloc, name)?;
+            if found.is_some() {
+                return Ok(found);
+            }
+        }
+        Ok(None)
+    }
+
+    /// The first of all that were listed, where it can be had.
+    fn first(&mut self, alloc: Global) -> io::Result<Option<Bytes>>
+        ensures { IfOk result (λ found. IfSome found (λ bytes. length bytes ≤ 524289)) }
+    {
+        let found = self.again(alloc)?;
+        if found.is_some() {
+            return Ok(found);
+        }
+        let found = self.first_taken(alloc)?;
+        if found.is_some() {
+            return Ok(found);
+        }
+        self.first_new(alloc)
+    }
+
+    /// What comes next. Once all that were listed are done, the folders are listed again. Whether the inbox is closed is
     /// asked before that, so that no document is missed that came before it was closed.
     fn next(&mut self, alloc: Global) -> io::Result<Incoming>
         ensures { IfOk result IsShort }
     {
+        self.tray.make_room()?;
         if let Some(bytes) = self.first(alloc)? {
             return Ok(Incoming::Document(bytes));
         }
-        let is_closed = is_file(self.files, self.paths.entry(INBOX, CLOSED)?)?;
-        self.names = json_names(self.files, self.paths.below(INBOX)?)?;
-        self.names.reverse();
+        let is_closed = self.tray.is_closed()?;
+        self.list()?;
         match self.first(alloc)? {
             Some(bytes) => Ok(Incoming::Document(bytes)),
             None if is_closed => Ok(Incoming::Closed),
@@ -76,26 +134,29 @@ impl<'a, R: Files<File = File> + AllocGlobal + Clone + Drop> Listed<'a, R> {
         }
     }
 
-    /// Removes the first, and makes stable that it is gone.
-    fn remove_first(&mut self) -> io::Result<()> {
-        let Some(name) = self.names.last() else {
-            return Ok(());
-        };
-        match fs::remove_file(self.files, self.paths.entry(INBOX, name.as_str())?) {
-            Ok(()) => {}
-            Err(error) if error.kind() == ErrorKind::NotFound => {}
-            Err(error) => return Err(error),
-        }
-        sync_folder(self.files, self.paths.below(INBOX)?)?;
-        drop(self.names.pop());
+    fn list(&mut self) -> io::Result<()> {
+        self.names = self.tray.list_inbox()?;
+        self.names.reverse();
+        self.taken = self.tray.list_taken()?;
+        self.taken.reverse();
         Ok(())
+    }
+
+    /// Takes away the one in hand.
+    fn put_away(&mut self) {
+        if let Some(name) = self.in_hand.take() {
+            self.tray.put_away(name);
+        }
     }
 }
 
-/// The inbox in a folder: the files of `inbox` that end in `.json`, in byte order of their names. A document is done
-/// by its removal, and a file `inbox/closed` closes the inbox. The folder is listed once for all documents that stand
-/// there, so one that comes later waits until these are done. It tells nothing of what the documents hold, and counts
-/// its faults.
+/// The inbox in a folder: the plain files of `inbox` whose names are text and end in `.json`, in byte order of their names. A
+/// document is moved into the folder `taken` before it is read, so that what comes under its name meanwhile is another
+/// document; what stands in `taken` at the first call comes first. A document is done by its removal, or by a move into the folder
+/// `handled` where that stands, and a file `inbox/closed` closes the inbox. The folders are listed once for all documents
+/// that stand there, so one that comes later waits until these are done. What is no document, or cannot be taken or read now, is
+/// passed over and tried at each listing; what cannot be taken away once it is done is passed over for good. A call fails where
+/// the inbox cannot be listed, as where the root is gone. It tells nothing of what the documents hold, and counts its faults.
 #[derive(Drop)]
 pub struct FolderInbox<'a, R: Files<File = File>> {
     listed: Listed<'a, R>,
@@ -103,21 +164,21 @@ pub struct FolderInbox<'a, R: Files<File = File>> {
     faults: u64,
 }
 
-impl<'a, R: Files<File = File> + AllocGlobal + Clone + Drop> FolderInbox<'a, R> {
+impl<'a, R: Files<File = File> + Clock + AllocGlobal + Clone + Drop> FolderInbox<'a, R> {
     /// An empty root is the current folder. Nothing is read before the first call.
-    pub fn new(files: &'a R, root: &'a str) -> Result<Self, NoMemory>
+    pub fn new(rt: &'a R, root: &'a str) -> Result<Self, NoMemory>
         ensures answered { IfOk result (λ inbox. inbox_answered inbox ≡ unanswered) }
         ensures faults { IfOk result (λ inbox. inbox_faults inbox ≡ 0) }
     {
         Ok(FolderInbox {
-            listed: Listed::new(files, root)?,
+            listed: Listed::new(rt, root)?,
             answered: Answered::none(),
             faults: 0,
         })
     }
 }
 
-impl<'a, R: Files<File = File> + AllocGlobal + Clone + Drop> Inbox for FolderInbox<'a, R> {
+impl<'a, R: Files<File = File> + Clock + AllocGlobal + Clone + Drop> Inbox for FolderInbox<'a, R> {
     ghost waiting = { λ inbox. None };
 
     ghost answered = { λ inbox. inbox_answered inbox };
@@ -131,7 +192,8 @@ impl<'a, R: Files<File = File> + AllocGlobal + Clone + Drop> Inbox for FolderInb
                 Ok(incoming)
             }
             Err(error) if error.kind() == ErrorKind::OutOfMemory => Err(InboxFault::NoMemory),
-            Err(_) => {
+            Err(error) => {
+                self.listed.tray.tell_fault("next", &error);
                 self.faults = self.faults.saturating_add(1);
                 Err(InboxFault::Failed)
             }
@@ -139,15 +201,8 @@ impl<'a, R: Files<File = File> + AllocGlobal + Clone + Drop> Inbox for FolderInb
     }
 
     fn done(&mut self) -> Result<(), EdgeFault> {
-        match self.listed.remove_first() {
-            Ok(()) => {
-                self.answered.count_done();
-                Ok(())
-            }
-            Err(_) => {
-                self.faults = self.faults.saturating_add(1);
-                Err(EdgeFault)
-            }
-        }
+        self.listed.put_away();
+        self.answered.count_done();
+        Ok(())
     }
 }

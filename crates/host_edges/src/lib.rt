@@ -6,6 +6,8 @@
 
 mod inbox;
 mod library;
+mod told;
+mod tray;
 
 pub use inbox::FolderInbox;
 pub use library::FolderLibrary;

@@ -3,20 +3,29 @@ ghost use Rattle.nuc_base.specs.Faults.{Rose};
 ghost use Rattle.library_core.specs.Library.{IsWithin, most_given};
 ghost use Rattle.host_edges.specs.Real.{library_faults};
 
+use crate::told::Told;
 use host_files::{Paths, is_file, json_names, read_full, read_prefix};
 use library_core::{Library, LibraryFault, Piece};
 use npm_ranges::Version;
 use nuc_base::{Bytes, Label, Name, NoMemory};
 use std::alloc::Global;
 use std::fs::{File, Files};
-use std::io;
 use std::io::ErrorKind;
+use std::rt::Clock;
+use std::time::Duration;
+use std::{io, thread};
 
 /// Where recipes stand below the folder of the device.
 const RECIPES: &str = "library/recipes";
 
 /// The most bytes of a recipe that are given: one more than a recipe may have.
 const MOST_GIVEN: usize = 65_537;
+
+/// How often a call of the system is tried again that failed, and how many milliseconds lie between two tries. Whoever
+/// replaces a file, or a folder that comes over a network, needs a moment.
+const TRIES_MORE: usize = 2;
+
+const PAUSE_MS: u64 = 100;
 
 /// The artifact that was asked for last, which stays open while its pieces are read.
 #[derive(Drop)]
@@ -28,48 +37,94 @@ struct Opened {
 /// The files of a library.
 #[derive(Drop)]
 struct Shelf<'a, R: Files<File = File>> {
-    files: &'a R,
+    rt: &'a R,
     paths: Paths<'a>,
-    recipes: Option<Vec<String>>,
+    told: Told<'a, R>,
+    /// The names of the recipes, as they were listed last.
+    recipes: Vec<String>,
     opened: Option<Opened>,
 }
 
-impl<'a, R: Files<File = File> + AllocGlobal + Clone + Drop> Shelf<'a, R> {
-    fn new(files: &'a R, root: &'a str) -> Result<Self, NoMemory> {
+/// Whether a call that failed may do better at another try.
+fn may_pass(error: &io::Error) -> bool {
+    error.kind() != ErrorKind::OutOfMemory
+}
+
+impl<'a, R: Files<File = File> + Clock + AllocGlobal + Clone + Drop> Shelf<'a, R> {
+    fn new(rt: &'a R, root: &'a str) -> Result<Self, NoMemory> {
+        let alloc = rt.alloc();
         Ok(Shelf {
-            files,
-            paths: Paths::new(files.alloc(), root)?,
-            recipes: None,
+            rt,
+            paths: Paths::new(alloc, root)?,
+            told: Told::new(rt, root, "library"),
+            recipes: Vec::new(alloc),
             opened: None,
         })
     }
 
-    /// Lists the recipes where that was not done yet, and gives their count.
+    fn pause(&self) {
+        thread::sleep(self.rt, Duration::from_millis(PAUSE_MS));
+    }
+
+    /// Tells of a fault of the call at the path that was used last.
+    fn tell_fault(&self, call: &str, error: &io::Error) {
+        self.told.fault(call, self.paths.last(), error);
+    }
+
+    /// Lists the recipes, and gives their count. The artifact that is open is let go of.
     fn count(&mut self) -> io::Result<u32> {
-        let count = match &self.recipes {
-            Some(recipes) => recipes.len(),
-            None => {
-                let recipes = json_names(self.files, self.paths.below(RECIPES)?)?;
-                let count = recipes.len();
-                self.recipes = Some(recipes);
-                count
+        self.opened = None;
+        for _ in 0..TRIES_MORE {
+            match self.list() {
+                Err(error) if may_pass(&error) => self.pause(),
+                listed => return listed,
             }
-        };
-        u32::try_from(count).map_err(|_| io::Error::from(ErrorKind::InvalidData))
+        }
+        self.list()
+    }
+
+    fn list(&mut self) -> io::Result<u32> {
+        self.recipes.clear();
+        self.told.begin();
+        let found = json_names(self.rt, self.paths.below(RECIPES)?)?;
+        for name in &found.no_text {
+            self.told.pass_over(RECIPES, name.as_str());
+        }
+        for name in found.names {
+            self.add(name)?;
+        }
+        u32::try_from(self.recipes.len()).map_err(|_| io::Error::from(ErrorKind::InvalidData))
+    }
+
+    /// Adds the name, where a file stands there or a link that leads to one.
+    fn add(&mut self, name: String) -> io::Result<()> {
+        if leads_to_file(self.rt, self.paths.entry(RECIPES, name.as_str())?)? {
+            self.recipes.push(name)?;
+        } else {
+            self.told.pass_over(RECIPES, name.as_str());
+        }
+        Ok(())
     }
 
     fn recipe(&mut self, alloc: Global, at: u32) -> io::Result<Bytes>
         ensures short { IfOk result (λ bytes. length bytes ≤ most_given) }
     {
-        self.count()?;
-        let name = match &self.recipes {
-            Some(recipes) => recipes.get(at as usize),
-            None => None,
-        };
-        match name {
+        for _ in 0..TRIES_MORE {
+            match self.try_recipe(alloc, at) {
+                Err(error) if may_pass(&error) => self.pause(),
+                read => return read,
+            }
+        }
+        self.try_recipe(alloc, at)
+    }
+
+    fn try_recipe(&mut self, alloc: Global, at: u32) -> io::Result<Bytes>
+        ensures short { IfOk result (λ bytes. length bytes ≤ most_given) }
+    {
+        match self.recipes.get(at as usize) {
             Some(name) => read_prefix(
                 alloc,
-                self.files,
+                self.rt,
                 self.paths.entry(RECIPES, name.as_str())?,
                 MOST_GIVEN,
             ),
@@ -86,10 +141,10 @@ impl<'a, R: Files<File = File> + AllocGlobal + Clone + Drop> Shelf<'a, R> {
         }
         self.opened = None;
         let path = self.paths.below(name.as_str())?;
-        if !is_file(self.files, path)? {
+        if !is_file(self.rt, path)? {
             return Ok(false);
         }
-        let file = File::open(self.files, path)?;
+        let file = File::open(self.rt, path)?;
         self.opened = Some(Opened { name, file });
         Ok(true)
     }
@@ -105,7 +160,22 @@ impl<'a, R: Files<File = File> + AllocGlobal + Clone + Drop> Shelf<'a, R> {
     ) -> io::Result<Piece>
         ensures bound { IfOk result (IsWithin (length into.old)) }
     {
+        for _ in 0..TRIES_MORE {
+            let path = format!(in alloc; "library/artifacts/{name}/{version}/{file}")?;
+            match self.try_artifact(path, from, into) {
+                Err(error) if may_pass(&error) => self.pause(),
+                read => return read,
+            }
+            // The file that is open may be one that is no more to be had.
+            self.opened = None;
+        }
         let path = format!(in alloc; "library/artifacts/{name}/{version}/{file}")?;
+        self.try_artifact(path, from, into)
+    }
+
+    fn try_artifact(&mut self, path: String, from: u64, into: &mut [u8]) -> io::Result<Piece>
+        ensures bound { IfOk result (IsWithin (length into.old)) }
+    {
         if !self.open(path)? {
             return Ok(Piece::Missing);
         }
@@ -116,28 +186,41 @@ impl<'a, R: Files<File = File> + AllocGlobal + Clone + Drop> Shelf<'a, R> {
     }
 }
 
-/// The library in a folder: `library/recipes` has the recipes, its files that end in `.json` in byte order of their
-/// names, and `library/artifacts/NAME/VERSION/FILE` the artifacts. A folder that is not there is empty. The names of
-/// the recipes are listed once. It tells nothing of what the files hold, and counts its faults.
+/// Whether a plain file stands there, or a link that leads to one. A link that leads nowhere, or to itself, is none.
+fn leads_to_file<R: Files>(files: &R, path: &str) -> io::Result<bool> {
+    match is_file(files, path) {
+        Err(error)
+            if error.kind() == ErrorKind::FilesystemLoop
+                || error.kind() == ErrorKind::NotADirectory => Ok(false),
+        answer => answer,
+    }
+}
+
+/// The library in a folder: `library/recipes` has the recipes, its files that end in `.json` in byte order of their names, and
+/// `library/artifacts/NAME/VERSION/FILE` the artifacts. A folder that is not there is empty, a link counts as what it leads to,
+/// and what is no file, or has a name that is no text, is passed over. The recipes are listed anew whenever they are counted,
+/// and the artifact that is open is let go of then: so what came, went or was replaced between two documents counts from the
+/// next one on. What cannot be read is tried three times, a tenth of a second apart. It tells nothing of what the files hold,
+/// and counts its faults.
 #[derive(Drop)]
 pub struct FolderLibrary<'a, R: Files<File = File>> {
     shelf: Shelf<'a, R>,
     faults: u64,
 }
 
-impl<'a, R: Files<File = File> + AllocGlobal + Clone + Drop> FolderLibrary<'a, R> {
+impl<'a, R: Files<File = File> + Clock + AllocGlobal + Clone + Drop> FolderLibrary<'a, R> {
     /// An empty root is the current folder. Nothing is read before the first call.
-    pub fn new(files: &'a R, root: &'a str) -> Result<Self, NoMemory>
+    pub fn new(rt: &'a R, root: &'a str) -> Result<Self, NoMemory>
         ensures faults { IfOk result (λ library. library_faults library ≡ 0) }
     {
         Ok(FolderLibrary {
-            shelf: Shelf::new(files, root)?,
+            shelf: Shelf::new(rt, root)?,
             faults: 0,
         })
     }
 
-    /// Hands an answer on, and counts a fault that is no want of memory.
-    fn counted<T: Drop>(&mut self, answer: io::Result<T>) -> Result<T, LibraryFault>
+    /// Hands the answer of that call on, and counts and tells a fault that is no want of memory.
+    fn counted<T: Drop>(&mut self, call: &str, answer: io::Result<T>) -> Result<T, LibraryFault>
         ensures value { IfOk result (λ value. answer ≡ Ok value) }
         ensures cause { IsErrOf result LibraryFault.Failed → Rose self.old.faults self.new.faults }
         ensures quiet { ¬ (IsErrOf result LibraryFault.Failed) → self.new.faults ≡ self.old.faults }
@@ -146,7 +229,8 @@ impl<'a, R: Files<File = File> + AllocGlobal + Clone + Drop> FolderLibrary<'a, R
         match answer {
             Ok(value) => Ok(value),
             Err(error) if error.kind() == ErrorKind::OutOfMemory => Err(LibraryFault::NoMemory),
-            Err(_) => {
+            Err(error) => {
+                self.shelf.tell_fault(call, &error);
                 self.faults = self.faults.saturating_add(1);
                 Err(LibraryFault::Failed)
             }
@@ -154,19 +238,20 @@ impl<'a, R: Files<File = File> + AllocGlobal + Clone + Drop> FolderLibrary<'a, R
     }
 }
 
-impl<'a, R: Files<File = File> + AllocGlobal + Clone + Drop> Library for FolderLibrary<'a, R> {
+impl<'a, R: Files<File = File> + Clock + AllocGlobal + Clone + Drop> Library
+    for FolderLibrary<'a, R> {
     ghost content = { λ library. None };
 
     ghost faults = { λ library. library_faults library };
 
     fn count(&mut self, _alloc: Global) -> Result<u32, LibraryFault> {
         let count = self.shelf.count();
-        self.counted(count)
+        self.counted("count", count)
     }
 
     fn recipe(&mut self, alloc: Global, at: u32) -> Result<Bytes, LibraryFault> {
         let recipe = self.shelf.recipe(alloc, at);
-        self.counted(recipe)
+        self.counted("recipe", recipe)
     }
 
     fn artifact(
@@ -179,6 +264,6 @@ impl<'a, R: Files<File = File> + AllocGlobal + Clone + Drop> Library for FolderL
         into: &mut [u8],
     ) -> Result<Piece, LibraryFault> {
         let piece = self.shelf.artifact(alloc, name, version, file, from, into);
-        self.counted(piece)
+        self.counted("artifact", piece)
     }
 }

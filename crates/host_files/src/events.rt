@@ -61,6 +61,12 @@ pub enum Event<'e> {
         folder: &'e str,
         name: &'e str,
     },
+    /// Something in a folder cannot be had now, and is passed over.
+    PassedOverFor {
+        folder: &'e str,
+        name: &'e str,
+        error: &'e io::Error,
+    },
     /// A call of an object failed.
     Failed {
         object: &'e str,
@@ -78,7 +84,7 @@ pub enum Event<'e> {
         path: &'e str,
         millis: u64,
     },
-    /// What a sweep could not remove.
+    /// What a sweep, or the inbox behind a document, could not remove.
     NotRemoved {
         path: &'e str,
         error: &'e io::Error,
@@ -120,6 +126,11 @@ impl<'e> Display for Event<'e> {
             Event::Taken { name, bytes } => write!(f, "take {name:?} {bytes}"),
             Event::Done { name } => write!(f, "done {name:?}"),
             Event::PassedOver { folder, name } => write!(f, "pass-over {folder} {name:?}"),
+            Event::PassedOverFor {
+                folder,
+                name,
+                error,
+            } => write!(f, "pass-over {folder} {name:?}: {error}"),
             Event::Failed {
                 object,
                 call,

@@ -11,7 +11,7 @@ mod places;
 mod window;
 mod words;
 
-pub use documents::{is_file, json_names, read_prefix};
+pub use documents::{JsonNames, is_file, json_names, may_read, read_prefix};
 pub use events::{Event, EventLog};
 pub use logs::{LOG_LIMIT, open_log};
 pub use paths::{LONGEST_NAME, Paths, folder_of, is_within, make_folder, sync_folder};

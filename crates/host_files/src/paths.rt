@@ -46,6 +46,12 @@ impl<'a> Paths<'a> {
         Ok(self.text.as_str())
     }
 
+    /// The path that was put together last, below the root.
+    pub fn last(&self) -> &str {
+        let from = self.root.len().saturating_add(1);
+        self.text.get(from..).unwrap_or("")
+    }
+
     /// The path of a file, where no folder on the way is anything but a folder, and what stands there, if anything, is a
     /// plain file. A symbolic link is neither.
     pub fn plain_file<R: Files>(&mut self, files: &R, name: &str) -> io::Result<&str> {

@@ -9,6 +9,8 @@ mod artifacts;
 #[cfg(test)]
 mod children;
 #[cfg(test)]
+mod folders;
+#[cfg(test)]
 mod objects;
 #[cfg(test)]
 mod roots;

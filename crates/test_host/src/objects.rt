@@ -229,7 +229,7 @@ fn gives_recipes(
 }
 
 /// What is given of a file of `A` in version 1.0.0, from its second byte on.
-fn piece<L: Library>(
+pub fn piece<L: Library>(
     alloc: Global,
     library: &mut L,
     file: &str,
@@ -296,7 +296,7 @@ fn a_library_gives_its_files(rt: HostRuntime) -> Result<(), Fail> {
 }
 
 /// Whether this document comes next, also when it is asked for twice, and is done then.
-fn takes<I: Inbox>(alloc: Global, inbox: &mut I, bytes: &[u8]) -> bool {
+pub fn takes<I: Inbox>(alloc: Global, inbox: &mut I, bytes: &[u8]) -> bool {
     let is_first = match inbox.next(alloc) {
         Ok(Incoming::Document(document)) => document.as_slice() == bytes,
         _ => false,
@@ -319,7 +319,7 @@ fn fill_inbox(rt: &HostRuntime) -> Result<(), Fail> {
 }
 
 /// Whether there is nothing in it, and no document is left.
-fn has_nothing<I: Inbox>(alloc: Global, inbox: &mut I) -> bool {
+pub fn has_nothing<I: Inbox>(alloc: Global, inbox: &mut I) -> bool {
     matches!(inbox.next(alloc), Ok(Incoming::Nothing))
 }
 
@@ -338,6 +338,7 @@ fn gives_its_documents<I: Inbox>(rt: &HostRuntime, inbox: &mut I) -> Result<bool
 #[test]
 fn an_inbox_gives_what_is_not_done(rt: HostRuntime) -> Result<(), Fail> {
     let root = "inbox-of-a-test";
+    fs::create_dir_all(&rt, root)?;
     let mut inbox = FolderInbox::new(&rt, root)?;
     let are_given = gives_its_documents(&rt, &mut inbox);
     drop(inbox);
