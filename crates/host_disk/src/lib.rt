@@ -6,8 +6,10 @@
 
 mod access;
 mod disk;
+mod folders;
 mod listing;
 mod names;
+mod outside;
 mod slot;
 mod store;
 mod strays;

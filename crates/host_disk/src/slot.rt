@@ -1,6 +1,7 @@
 ghost use Rattle.std.specs.Prelude.{◌≤◌, length, IfOk};
 
 use crate::access::Access;
+use crate::outside::{Outside, Patience};
 use crate::store::FILE_MODE;
 use host_files::{Paths, Window, read_full};
 use nuc_base::NoMemory;
@@ -9,6 +10,7 @@ use std::fs::{File, Files, OpenOptions};
 use std::io;
 use std::io::ErrorKind;
 use std::os::unix::fs::{FileExt, OpenOptionsExt};
+use std::time::Clock;
 
 /// How many bytes of a journal's file tell in which turn it was begun: those of its first entry up to the turn's number.
 const BEGINNING: usize = 14;
@@ -53,6 +55,7 @@ pub(crate) struct Slot {
     beginning: Option<[u8; BEGINNING]>,
     /// Whether readers wait while it is changed.
     is_shared: bool,
+    patience: Patience,
 }
 
 impl Slot {
@@ -62,6 +65,7 @@ impl Slot {
             window: Window::new(alloc)?,
             beginning: None,
             is_shared,
+            patience: Patience::Whole,
         })
     }
 
@@ -103,7 +107,7 @@ impl Slot {
     /// Whether the file is open, and may be written where that is what is done with it.
     pub fn is_open_for(&self, access: Access) -> bool {
         match &self.opened {
-            Some(opened) => access == Access::Read || opened.access == Access::Write,
+            Some(opened) => !access.writes() || opened.access.writes(),
             None => false,
         }
     }
@@ -146,7 +150,7 @@ impl Slot {
         let Some(opened) = &self.opened else {
             return Ok(0);
         };
-        if !self.is_shared || access == Access::Write || self.window.has(at, into.len()) {
+        if !self.is_shared || access.writes() || self.window.has(at, into.len()) {
             return self.window.read(&opened.file, at, into);
         }
         opened.file.lock_shared()?;
@@ -161,11 +165,26 @@ impl Slot {
         count
     }
 
-    /// Writes all of it at that place. Before a journal takes the entry that accepts a deployment, room is made for all
-    /// entries that may follow up to its close.
-    pub fn write(&mut self, at: u64, bytes: &[u8]) -> io::Result<()> {
+    /// The file of this name changes from now on until its next sync: readers wait.
+    pub fn change<R: Files<File = File> + Clock>(
+        &mut self,
+        outside: &Outside<'_, R>,
+        name: &str,
+    ) -> io::Result<()> {
         self.window.forget();
-        self.change()?;
+        let Some(opened) = &mut self.opened else {
+            return Ok(());
+        };
+        if self.is_shared && opened.kept != Kept::Changed {
+            self.patience = outside.keep_readers_out(&opened.file, name, self.patience)?;
+        }
+        opened.kept = Kept::Changed;
+        Ok(())
+    }
+
+    /// Writes all of it at that place of the file, which changes. Before a journal takes the entry that accepts a deployment,
+    /// room is made for all entries that may follow up to its close.
+    pub fn write(&mut self, at: u64, bytes: &[u8]) -> io::Result<()> {
         let Some(opened) = &self.opened else {
             return Err(io::Error::from(ErrorKind::NotFound));
         };
@@ -176,26 +195,12 @@ impl Slot {
         opened.file.write_all_at(bytes, at)
     }
 
-    /// Keeps so many bytes of the file, which is open.
+    /// Keeps so many bytes of the file, which is open and changes.
     pub fn cut(&mut self, len: u64) -> io::Result<()> {
-        self.window.forget();
-        self.change()?;
         match &self.opened {
             Some(opened) => opened.file.set_len(len),
             None => Err(io::Error::from(ErrorKind::NotFound)),
         }
-    }
-
-    /// The file changes from now on until its next sync: readers wait.
-    fn change(&mut self) -> io::Result<()> {
-        let Some(opened) = &mut self.opened else {
-            return Ok(());
-        };
-        if self.is_shared && opened.kept != Kept::Changed {
-            opened.file.lock()?;
-        }
-        opened.kept = Kept::Changed;
-        Ok(())
     }
 
     /// Makes the bytes stable where they may not be. Readers go on.
@@ -267,10 +272,7 @@ fn write_zeros(file: &File, zeros: &[u8], from: u64, to: u64) -> io::Result<()> 
 
 fn options(access: Access) -> OpenOptions {
     let mut options = OpenOptions::new();
-    options
-        .read(true)
-        .write(access == Access::Write)
-        .mode(FILE_MODE);
+    options.read(true).write(access.writes()).mode(FILE_MODE);
     options
 }
 

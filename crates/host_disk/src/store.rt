@@ -1,14 +1,18 @@
 ghost use Rattle.std.specs.Prelude.{◌≤◌, length, IfOk};
 
 use crate::access::Access;
-use crate::listing::list_files;
+use crate::folders::is_refused;
+use crate::listing::{Closed, list_files};
+use crate::outside::Outside;
 use crate::slot::Slot;
 use crate::streams::HeldStreams;
-use host_files::{LONGEST_NAME, Paths, folder_of, is_within, make_folder, sync_folder};
+use host_files::{LONGEST_NAME, Paths, folder_of, is_file, is_within, make_folder, sync_folder};
 use nuc_base::{FileName, List, NoMemory};
+use std::alloc::Global;
 use std::fs::{File, Files, OpenOptions};
 use std::io::ErrorKind;
-use std::os::unix::fs::OpenOptionsExt;
+use std::os::unix::fs::{MetadataExt, OpenOptionsExt};
+use std::time::Clock;
 use std::{fs, io};
 
 /// The two files of the journal, which stay open from their first use on. Any other is closed behind its sync, and open for
@@ -24,24 +28,53 @@ fn is_journal(file: &str) -> bool {
 /// The file on which a program that may write holds a lock, to its end.
 const LOCK: &str = "lock";
 
+/// The log of events.
+const EVENTS: &str = "logs/events";
+
 /// What the artifacts stand below.
-const ARTIFACTS: &str = "packages/artifacts";
+pub const ARTIFACTS: &str = "packages/artifacts";
 
 /// Files are their owner's alone.
 pub const FILE_MODE: u32 = 0o600;
 
-/// The files below a folder.
+/// What is open of the journal, and one other file.
 #[derive(Drop)]
-pub struct Store<'a, R: Files<File = File>> {
-    files: &'a R,
-    access: Access,
-    paths: Paths<'a>,
-    streams: HeldStreams,
-    lock: Option<File>,
+struct Slots {
     journal: Slot,
     second: Slot,
     other: Slot,
-    /// The name of the file that `other` is.
+}
+
+impl Slots {
+    fn new(alloc: Global) -> Result<Self, NoMemory> {
+        Ok(Slots {
+            journal: Slot::new(alloc, true)?,
+            second: Slot::new(alloc, true)?,
+            other: Slot::new(alloc, false)?,
+        })
+    }
+
+    /// The one of this file.
+    fn of(&mut self, file: &str) -> &mut Slot {
+        if file == FIRST_JOURNAL {
+            &mut self.journal
+        } else if file == SECOND_JOURNAL {
+            &mut self.second
+        } else {
+            &mut self.other
+        }
+    }
+}
+
+/// The files below a folder.
+#[derive(Drop)]
+pub struct Store<'a, R: Files<File = File>> {
+    outside: Outside<'a, R>,
+    paths: Paths<'a>,
+    streams: HeldStreams,
+    lock: Option<File>,
+    slots: Slots,
+    /// The name of the file that the other slot is of.
     named: String,
     /// A folder which was synced, as all above it were, and nothing in these was made or removed since.
     synced: String,
@@ -51,19 +84,16 @@ pub struct Store<'a, R: Files<File = File>> {
     failed: bool,
 }
 
-impl<'a, R: Files<File = File> + AllocGlobal> Store<'a, R> {
+impl<'a, R: Files<File = File> + AllocGlobal + Clock> Store<'a, R> {
     /// Takes all memory that later calls need, but for that of a listing.
     pub fn new(files: &'a R, root: &'a str, access: Access) -> Result<Self, NoMemory> {
         let alloc = files.alloc();
         Ok(Store {
-            files,
-            access,
+            outside: Outside::new(files, alloc, root, access),
             paths: Paths::new(alloc, root)?,
             streams: HeldStreams::new(alloc)?,
             lock: None,
-            journal: Slot::new(alloc, true)?,
-            second: Slot::new(alloc, true)?,
-            other: Slot::new(alloc, false)?,
+            slots: Slots::new(alloc)?,
             named: String::with_capacity(alloc, LONGEST_NAME)?,
             synced: String::with_capacity(alloc, LONGEST_NAME)?,
             has_synced: false,
@@ -72,7 +102,13 @@ impl<'a, R: Files<File = File> + AllocGlobal> Store<'a, R> {
         })
     }
 
-    /// Before the first call: holds the free streams, and takes the lock of a program that may write.
+    /// What the disk reaches beside its files.
+    pub fn outside(&self) -> &Outside<'a, R> {
+        &self.outside
+    }
+
+    /// Before the first call: holds the free streams, and takes the lock of a program that may write, unless the store is
+    /// another user's.
     fn begin(&mut self) -> io::Result<()> {
         if self.failed {
             return Err(io::Error::from(ErrorKind::Other));
@@ -80,21 +116,33 @@ impl<'a, R: Files<File = File> + AllocGlobal> Store<'a, R> {
         if self.begun {
             return Ok(());
         }
-        self.streams.hold(self.files)?;
-        if self.access == Access::Write {
-            self.lock = Some(take_lock(self.files, &mut self.paths)?);
+        self.streams.hold(self.outside.rt)?;
+        if self.outside.access == Access::Write {
+            self.check_owner(FIRST_JOURNAL)?;
+            self.check_owner(SECOND_JOURNAL)?;
+        }
+        if self.outside.access.writes() {
+            self.lock = Some(take_lock(&self.outside, &mut self.paths)?);
         }
         self.begun = true;
         Ok(())
     }
 
-    fn slot(&mut self, file: &str) -> &mut Slot {
-        if file == FIRST_JOURNAL {
-            &mut self.journal
-        } else if file == SECOND_JOURNAL {
-            &mut self.second
-        } else {
-            &mut self.other
+    /// Fails, and all later calls too, where the file is there and another user's, who could do nothing with what this one
+    /// would write beside it. Where there is no log of events none is made then.
+    fn check_owner(&mut self, file: &str) -> io::Result<()> {
+        let files = self.outside.rt;
+        match fs::symlink_metadata(files, self.paths.below(file)?) {
+            Ok(found) if found.uid() == libc::geteuid() => Ok(()),
+            Ok(_) => {
+                self.failed = true;
+                if !is_file(files, self.paths.below(EVENTS)?)? {
+                    self.outside.hush();
+                }
+                Err(io::Error::new(ErrorKind::PermissionDenied, "it belongs to another user"))
+            }
+            Err(error) if error.kind() == ErrorKind::NotFound => Ok(()),
+            Err(error) => Err(error),
         }
     }
 
@@ -105,7 +153,7 @@ impl<'a, R: Files<File = File> + AllocGlobal> Store<'a, R> {
             return Ok(());
         }
         self.settle_other()?;
-        self.other.close();
+        self.slots.other.close();
         self.named.clear();
         self.named.push_str(file)?;
         Ok(())
@@ -113,11 +161,11 @@ impl<'a, R: Files<File = File> + AllocGlobal> Store<'a, R> {
 
     /// Makes stable what `other` holds. After a failure nothing is answered any more.
     fn settle_other(&mut self) -> io::Result<()> {
-        if !self.other.is_changed() {
+        if !self.slots.other.is_changed() {
             return Ok(());
         }
         self.failed = true;
-        self.other.sync()?;
+        self.slots.other.sync()?;
         self.failed = false;
         Ok(())
     }
@@ -125,7 +173,7 @@ impl<'a, R: Files<File = File> + AllocGlobal> Store<'a, R> {
     /// Opens the file where it is there, to read it. A journal's is opened for all that this program may do with it.
     fn open(&mut self, file: &str) -> io::Result<()> {
         let access = if is_journal(file) {
-            self.access
+            self.outside.access
         } else {
             Access::Read
         };
@@ -134,33 +182,21 @@ impl<'a, R: Files<File = File> + AllocGlobal> Store<'a, R> {
 
     fn open_for(&mut self, file: &str, access: Access) -> io::Result<()> {
         self.turn_to(file)?;
-        let files = self.files;
-        if file == FIRST_JOURNAL {
-            self.journal.open(files, access, &mut self.paths, file)
-        } else if file == SECOND_JOURNAL {
-            self.second.open(files, access, &mut self.paths, file)
-        } else {
-            self.other.open(files, access, &mut self.paths, file)
-        }
+        let slot = self.slots.of(file);
+        slot.open(self.outside.rt, access, &mut self.paths, file)
     }
 
     /// Opens the file to change it, and makes it with its folders where it is not there.
     fn make(&mut self, file: &str) -> io::Result<()> {
-        let access = self.access;
+        let access = self.outside.access;
         self.open_for(file, access)?;
-        if self.slot(file).is_open_for(access) {
+        if self.slots.of(file).is_open_for(access) {
             return Ok(());
         }
         self.make_folders(file)?;
         self.change_folder(folder_of(file))?;
-        let files = self.files;
-        if file == FIRST_JOURNAL {
-            self.journal.create(files, access, &mut self.paths, file)
-        } else if file == SECOND_JOURNAL {
-            self.second.create(files, access, &mut self.paths, file)
-        } else {
-            self.other.create(files, access, &mut self.paths, file)
-        }
+        let slot = self.slots.of(file);
+        slot.create(self.outside.rt, access, &mut self.paths, file)
     }
 
     /// Makes the folders that this file stands in, as far as they are missing.
@@ -175,7 +211,7 @@ impl<'a, R: Files<File = File> + AllocGlobal> Store<'a, R> {
     }
 
     fn make_folder(&mut self, folder: &str) -> io::Result<()> {
-        if make_folder(self.files, self.paths.below(folder)?)? {
+        if make_folder(self.outside.rt, self.paths.below(folder)?)? {
             self.change_folder(folder_of(folder))?;
         }
         Ok(())
@@ -199,20 +235,22 @@ impl<'a, R: Files<File = File> + AllocGlobal> Store<'a, R> {
 
     pub fn length(&mut self, file: &str) -> io::Result<u64> {
         self.open(file)?;
-        self.slot(file).length()
+        self.slots.of(file).length()
     }
 
     pub fn read(&mut self, file: &str, at: u64, into: &mut [u8]) -> io::Result<usize>
         ensures { IfOk result (λ n. n ≤ length into.old) }
     {
         self.open(file)?;
-        let access = self.access;
-        self.slot(file).read(access, at, into)
+        let access = self.outside.access;
+        self.slots.of(file).read(access, at, into)
     }
 
     pub fn write_at(&mut self, file: &str, at: u64, bytes: &[u8]) -> io::Result<()> {
         self.make(file)?;
-        self.slot(file).write(at, bytes)
+        let slot = self.slots.of(file);
+        slot.change(&self.outside, file)?;
+        slot.write(at, bytes)
     }
 
     /// Keeps so many bytes. A cut to nothing makes a file that is not there, so that an empty one stands there.
@@ -220,18 +258,20 @@ impl<'a, R: Files<File = File> + AllocGlobal> Store<'a, R> {
         if len == 0 {
             self.make(file)?;
         } else {
-            self.open_for(file, self.access)?;
+            self.open_for(file, self.outside.access)?;
         }
-        self.slot(file).cut(len)
+        let slot = self.slots.of(file);
+        slot.change(&self.outside, file)?;
+        slot.cut(len)
     }
 
     /// Makes the file stable, and that its folder names it, or names none. Nothing is synced that is known to be stable.
     pub fn sync(&mut self, file: &str) -> io::Result<()> {
         self.open(file)?;
         self.failed = true;
-        self.slot(file).sync()?;
+        self.slots.of(file).sync()?;
         if !is_journal(file) {
-            self.other.close();
+            self.slots.other.close();
         }
         let folder = folder_of(file);
         if !self.is_synced(folder) {
@@ -251,7 +291,7 @@ impl<'a, R: Files<File = File> + AllocGlobal> Store<'a, R> {
             if self.is_synced(name) {
                 break;
             }
-            sync_folder(self.files, self.paths.below(name)?)?;
+            sync_folder(self.outside.rt, self.paths.below(name)?)?;
             if name.is_empty() {
                 break;
             }
@@ -261,14 +301,24 @@ impl<'a, R: Files<File = File> + AllocGlobal> Store<'a, R> {
     }
 
     /// Removes what has that name, where it is there and no folder, and the folders of artifacts that are empty then. A link
-    /// is removed itself, and none on the way is followed.
+    /// is removed itself, and none on the way is followed. What the system does not let this program remove stays.
     pub fn remove(&mut self, file: &str) -> io::Result<()> {
         self.turn_to(file)?;
-        self.slot(file).close();
+        self.slots.of(file).close();
+        match self.remove_file(file) {
+            Err(error) if is_refused(&error) && is_within(ARTIFACTS, file) => {
+                self.outside.tell_kept(file, &error);
+                Ok(())
+            }
+            done => done,
+        }
+    }
+
+    fn remove_file(&mut self, file: &str) -> io::Result<()> {
         let folder = folder_of(file);
         self.change_folder(folder)?;
-        self.paths.check_folder(self.files, folder)?;
-        match fs::remove_file(self.files, self.paths.below(file)?) {
+        self.paths.check_folder(self.outside.rt, folder)?;
+        match fs::remove_file(self.outside.rt, self.paths.below(file)?) {
             Ok(()) => {}
             Err(error) if error.kind() == ErrorKind::NotFound => {}
             Err(error) => return Err(error),
@@ -289,23 +339,33 @@ impl<'a, R: Files<File = File> + AllocGlobal> Store<'a, R> {
         Ok(())
     }
 
-    /// Answers whether it was removed.
+    /// Answers whether it was removed. Where another reason than what stands in it keeps it, that is logged.
     fn remove_folder(&mut self, folder: &str) -> io::Result<bool> {
         if folder == ARTIFACTS || !is_within(ARTIFACTS, folder) {
             return Ok(false);
         }
         self.change_folder(folder_of(folder))?;
-        Ok(fs::remove_dir(self.files, self.paths.below(folder)?).is_ok())
+        match fs::remove_dir(self.outside.rt, self.paths.below(folder)?) {
+            Ok(()) => Ok(true),
+            Err(error) => {
+                match error.kind() {
+                    ErrorKind::DirectoryNotEmpty | ErrorKind::NotFound => {}
+                    _ => self.outside.tell_kept(folder, &error),
+                }
+                Ok(false)
+            }
+        }
     }
 
     /// The names of all that stands below the folder of the artifacts and is no folder, rising by their bytes. Of a program
     /// that may write, empty folders there are removed, and what has a name that no artifact can have.
     pub fn list(&mut self) -> io::Result<List<FileName>> {
         self.begin()?;
-        self.paths.check_folder(self.files, ARTIFACTS)?;
-        let found = list_files(self.files, self.access, &mut self.paths, ARTIFACTS)?;
-        if self.access == Access::Write {
+        self.paths.check_folder(self.outside.rt, ARTIFACTS)?;
+        let found = list_files(&self.outside, &mut self.paths, ARTIFACTS)?;
+        if self.outside.access.writes() {
             self.remove_all(found.empty.as_slice())?;
+            self.remove_closed(found.closed.as_slice())?;
         }
         Ok(List::new(found.files))
     }
@@ -317,17 +377,33 @@ impl<'a, R: Files<File = File> + AllocGlobal> Store<'a, R> {
         }
         Ok(())
     }
+
+    /// Removes each of these folders where nothing stands in it, and those above it that are empty then.
+    fn remove_closed(&mut self, folders: &[Closed]) -> io::Result<()> {
+        for closed in folders {
+            let folder = closed.folder.as_str();
+            self.change_folder(folder_of(folder))?;
+            match fs::remove_dir(self.outside.rt, self.paths.below(folder)?) {
+                Ok(()) => self.remove_folders(folder_of(folder))?,
+                Err(_) => self.outside.tell_kept(folder, &closed.error),
+            }
+        }
+        Ok(())
+    }
 }
 
 /// Makes the lock's file where it is missing, and holds a lock on it. It fails where another program holds one.
-fn take_lock<R: Files<File = File>>(files: &R, paths: &mut Paths<'_>) -> io::Result<File> {
-    let path = paths.plain_file(files, LOCK)?;
+fn take_lock<R: Files<File = File> + Clock>(
+    outside: &Outside<'_, R>,
+    paths: &mut Paths<'_>,
+) -> io::Result<File> {
+    let path = paths.plain_file(outside.rt, LOCK)?;
     let lock = OpenOptions::new()
         .read(true)
         .write(true)
         .create(true)
         .mode(FILE_MODE)
-        .open(files, path)?;
-    lock.try_lock()?;
+        .open(outside.rt, path)?;
+    outside.keep_writers_out(&lock, LOCK)?;
     Ok(lock)
 }

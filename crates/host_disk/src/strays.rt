@@ -1,177 +1,204 @@
 //! Removing what no artifact can be, by the bytes of its name.
-ghost use Rattle.std.specs.Prelude.{◌≤◌, length, IfOk};
 
-use crate::names::{NAMES, is_entry};
-use std::alloc::Global;
-use std::fs::Files;
+use crate::folders::{Left, Mount, is_refused, remove_folder};
+use crate::names::is_entry;
+use crate::outside::Outside;
+use std::alloc::{AllocError, Global};
+use std::fs::{File, Files};
 use std::io::ErrorKind;
+use std::time::Clock;
 use std::{fs, io};
 
 /// How long a path may get. What it names is moved up then, well before the system takes no longer one.
 const LONGEST_PATH: usize = 2_048;
 
-/// What stands at a path once a file there was removed.
-#[derive(Clone, Copy, Debug, PartialEq, Eq)]
-enum Left {
-    Nothing,
-    Folder,
-}
-
-/// Where the walk through a folder goes on.
-#[derive(Clone, Copy, Debug, PartialEq, Eq)]
-enum Next {
-    /// In a folder that stands in it.
-    Down,
-    /// In what it has still.
-    Here,
-    /// Above it, since nothing stands in it.
-    Up,
+/// What is still to be done with the folder at a path.
+#[derive(Drop)]
+enum Task {
+    /// To remove what stands in it, and then it.
+    Empty(Vec<u8>),
+    /// To remove it, since nothing is to stand in it.
+    Remove(Vec<u8>),
 }
 
 /// Removes files and whole folders, whatever the bytes of the names in them and however deep they stand. It goes down and
 /// up by paths, without recursion, and follows no link. Where a path gets too long, the folder that it names is moved up
-/// and removed after the others.
+/// and removed there. What the system does not let it remove stays and is logged, as is what was mounted there, into which
+/// it does not go; all else is removed.
 #[derive(Drop)]
 pub struct Remover {
+    alloc: Global,
     /// The path of the folder that others are moved into.
     top: String,
-    /// The path of what is looked at.
-    path: Vec<u8>,
-    /// The lengths of the paths of the folders above it.
-    above: Vec<usize>,
-    /// The numbers of those that were moved up and still stand.
-    moved: Vec<u64>,
-    /// The number that is tried next.
+    /// How long the path of DIR is, with the `/` behind it.
+    root: usize,
+    /// The one that comes last is done first.
+    tasks: Vec<Task>,
+    /// The number that is tried next for a folder that is moved up.
     next: u64,
 }
 
 impl Remover {
-    /// Folders that stand too deep are moved into this one, by names of `~` and a number, which no component has.
-    pub fn new(alloc: Global, top: &str) -> io::Result<Self> {
+    /// Folders that stand too deep are moved into this one, by names of `~` and a number, which no component has. Its path
+    /// begins with so many bytes of DIR's.
+    pub fn new(alloc: Global, top: &str, root: usize) -> io::Result<Self> {
         Ok(Remover {
+            alloc,
             top: String::from_str(alloc, top)?,
-            path: Vec::new(alloc),
-            above: Vec::new(alloc),
-            moved: Vec::new(alloc),
+            root,
+            tasks: Vec::new(alloc),
             next: 0,
         })
     }
 
-    /// Removes what has that name in the folder at this path, with all that stands below it.
-    pub fn remove<R: Files + AllocGlobal>(
+    /// Removes what has that name in the folder at this path, with all that stands below it and is of the mount. Answers
+    /// whether it is there still.
+    pub fn remove<R: Files<File = File> + AllocGlobal + Clock>(
         &mut self,
-        files: &R,
+        outside: &Outside<'_, R>,
+        mount: &Mount,
         folder: &str,
         name: &[u8],
+    ) -> io::Result<bool> {
+        let path = joined(self.alloc, folder.as_bytes(), name)?;
+        self.tasks.clear();
+        self.take(outside, path)?;
+        for _ in 0..u64::MAX {
+            let Some(task) = self.tasks.pop() else {
+                break;
+            };
+            self.work(outside, mount, task)?;
+        }
+        let path = joined(self.alloc, folder.as_bytes(), name)?;
+        match remove_file(path.as_slice()) {
+            Ok(Left::Nothing) => Ok(false),
+            _ => Ok(true),
+        }
+    }
+
+    fn work<R: Files<File = File> + AllocGlobal + Clock>(
+        &mut self,
+        outside: &Outside<'_, R>,
+        mount: &Mount,
+        task: Task,
     ) -> io::Result<()> {
-        self.path.clear();
-        self.path.extend_from_slice(folder.as_bytes())?;
-        self.push(name)?;
-        if remove_file(self.path.as_slice())? == Left::Nothing {
+        match task {
+            Task::Empty(path) => self.empty(outside, mount, path),
+            Task::Remove(path) => match remove_folder(path.as_slice()) {
+                // What stays in it was logged.
+                Ok(_) => Ok(()),
+                Err(error) => self.pass_over(outside, path.as_slice(), error),
+            },
+        }
+    }
+
+    /// Removes a file, and sees to it that a folder is removed later.
+    fn take<R: Files<File = File> + Clock>(
+        &mut self,
+        outside: &Outside<'_, R>,
+        path: Vec<u8>,
+    ) -> io::Result<()> {
+        match remove_file(path.as_slice()) {
+            Ok(Left::Nothing) => Ok(()),
+            Ok(Left::Folder) => self.take_folder(outside, path),
+            // What stands in a folder may be removed for all that.
+            Err(error) if is_refused(&error) && is_folder(path.as_slice()) => {
+                self.take_folder(outside, path)
+            }
+            Err(error) => self.pass_over(outside, path.as_slice(), error),
+        }
+    }
+
+    /// Sees to it that a folder is removed later. One whose path is too long is moved up first.
+    fn take_folder<R: Files<File = File> + Clock>(
+        &mut self,
+        outside: &Outside<'_, R>,
+        path: Vec<u8>,
+    ) -> io::Result<()> {
+        if path.len() <= LONGEST_PATH {
+            self.tasks.push(Task::Empty(path))?;
             return Ok(());
         }
-        let mut names = vec![in files.alloc(); 0; NAMES]?;
-        self.remove_tree(files, names.as_mut_slice())?;
-        self.remove_moved(files, names.as_mut_slice())
+        match self.move_up(outside.rt, path.as_slice()) {
+            Ok(()) => Ok(()),
+            Err(error) => self.pass_over(outside, path.as_slice(), error),
+        }
     }
 
-    /// Removes the folders that were moved up, and those that are moved up meanwhile.
-    fn remove_moved<R: Files + AllocGlobal>(
+    /// Removes the files in a folder, and sees to it that the folders in it are removed later, and then it.
+    fn empty<R: Files<File = File> + AllocGlobal + Clock>(
         &mut self,
-        files: &R,
-        names: &mut [u8],
+        outside: &Outside<'_, R>,
+        mount: &Mount,
+        path: Vec<u8>,
     ) -> io::Result<()> {
-        for _ in 0..u64::MAX {
-            let Some(number) = self.moved.pop() else {
-                break;
-            };
-            let path = self.moved_path(files, number)?;
-            self.path.clear();
-            self.path.extend_from_slice(path.as_bytes())?;
-            self.remove_tree(files, names)?;
+        let names = match mount.names(outside.rt, path.as_slice()) {
+            Ok(names) => names,
+            Err(error) => return self.remove_unseen(outside, path.as_slice(), error),
+        };
+        let folder = Vec::from_slice(self.alloc, path.as_slice())?;
+        self.tasks.push(Task::Remove(folder))?;
+        for name in names.as_slice().split(|byte| *byte == 0) {
+            if is_entry(name) {
+                let entry = joined(self.alloc, path.as_slice(), name)?;
+                self.take(outside, entry)?;
+            }
         }
         Ok(())
     }
 
-    /// The path of a folder that was moved up.
-    fn moved_path<R: AllocGlobal>(&self, files: &R, number: u64) -> io::Result<String> {
+    /// Removes a folder whose names are not to be had, as this error says, where nothing stands in it.
+    fn remove_unseen<R: Files<File = File> + Clock>(
+        &self,
+        outside: &Outside<'_, R>,
+        path: &[u8],
+        error: io::Error,
+    ) -> io::Result<()> {
+        match remove_folder(path) {
+            Ok(Left::Nothing) => Ok(()),
+            _ => self.pass_over(outside, path, error),
+        }
+    }
+
+    /// Logs that something stays. An error that is no refusal is handed on.
+    fn pass_over<R: Files<File = File> + Clock>(
+        &self,
+        outside: &Outside<'_, R>,
+        path: &[u8],
+        error: io::Error,
+    ) -> io::Result<()> {
+        if !is_refused(&error) {
+            return Err(error);
+        }
+        let name = path.get(self.root..).unwrap_or(path);
+        let name = String::from_utf8_lossy(self.alloc, name)?;
+        outside.tell_kept(name.as_str(), &error);
+        Ok(())
+    }
+
+    /// Gives the folder at this path a free name in the top folder, to be removed there.
+    fn move_up<R: Files>(&mut self, files: &R, path: &[u8]) -> io::Result<()> {
         let top = self.top.as_str();
-        Ok(format!(in files.alloc(); "{top}/~{number}")?)
-    }
-
-    /// Removes the folder at the path, from the deepest folder in it up.
-    fn remove_tree<R: Files + AllocGlobal>(
-        &mut self,
-        files: &R,
-        names: &mut [u8],
-    ) -> io::Result<()> {
-        self.above.clear();
-        for _ in 0..u64::MAX {
-            if self.remove_files(files, names)? != Next::Up {
-                continue;
-            }
-            remove_folder(self.path.as_slice())?;
-            let Some(length) = self.above.pop() else {
-                break;
-            };
-            self.path.truncate(length);
-        }
-        Ok(())
-    }
-
-    /// Removes what stands in the folder at the path, up to the first folder, which the path then names.
-    fn remove_files<R: Files + AllocGlobal>(
-        &mut self,
-        files: &R,
-        names: &mut [u8],
-    ) -> io::Result<Next> {
-        let count = first_names(self.path.as_slice(), names)?;
-        if count == 0 {
-            return Ok(Next::Up);
-        }
-        for name in names[..count].split(|byte| *byte == 0) {
-            if is_entry(name) && self.remove_entry(files, name)? == Left::Folder {
-                return Ok(Next::Down);
-            }
-        }
-        Ok(Next::Here)
-    }
-
-    /// Removes a file, or adds the name of a folder to the path. Where that is too long the folder is moved up.
-    fn remove_entry<R: Files + AllocGlobal>(&mut self, files: &R, name: &[u8]) -> io::Result<Left> {
-        let length = self.path.len();
-        self.push(name)?;
-        let left = remove_file(self.path.as_slice())?;
-        if left == Left::Folder && self.path.len() <= LONGEST_PATH {
-            self.above.push(length)?;
-            return Ok(Left::Folder);
-        }
-        if left == Left::Folder {
-            self.move_up(files)?;
-        }
-        self.path.truncate(length);
-        Ok(Left::Nothing)
-    }
-
-    /// Gives the folder at the path a free name in the top folder.
-    fn move_up<R: Files + AllocGlobal>(&mut self, files: &R) -> io::Result<()> {
         for number in self.next..u64::MAX {
-            let path = self.moved_path(files, number)?;
-            if is_free(files, path.as_str())? {
-                check(os::rename(self.path.as_slice(), path.as_bytes()))?;
-                self.moved.push(number)?;
+            let to = format!(in self.alloc; "{top}/~{number}")?;
+            if is_free(files, to.as_str())? {
+                check(os::rename(path, to.as_bytes()))?;
+                let moved = Vec::from_slice(self.alloc, to.as_bytes())?;
+                self.tasks.push(Task::Empty(moved))?;
                 self.next = number.saturating_add(1);
                 return Ok(());
             }
         }
         Err(io::Error::from(ErrorKind::AlreadyExists))
     }
+}
 
-    fn push(&mut self, name: &[u8]) -> io::Result<()> {
-        self.path.push(b'/')?;
-        self.path.extend_from_slice(name)?;
-        Ok(())
-    }
+/// The path of what has that name in a folder.
+fn joined(alloc: Global, folder: &[u8], name: &[u8]) -> Result<Vec<u8>, AllocError> {
+    let mut path = Vec::from_slice(alloc, folder)?;
+    path.push(b'/')?;
+    path.extend_from_slice(name)?;
+    Ok(path)
 }
 
 /// Whether nothing has that path.
@@ -183,46 +210,14 @@ fn is_free<R: Files>(files: &R, path: &str) -> io::Result<bool> {
     }
 }
 
-/// The names that are read first of the folder at this path, each with a zero behind it. None where nothing stands in it.
-fn first_names(path: &[u8], names: &mut [u8]) -> io::Result<usize>
-    ensures { IfOk result (λ n. n ≤ length names.old) }
-{
+/// Whether a folder has that path that may be looked into.
+fn is_folder(path: &[u8]) -> bool {
     let folder = os::open_dir_at(libc::AT_FDCWD, path);
     if folder < 0 {
-        return match os::errno() {
-            libc::ENOENT => Ok(0),
-            error => Err(io::Error::from_raw_os_error(error)),
-        };
+        return false;
     }
-    let count = read_names(folder, names);
     libc::close(folder);
-    count
-}
-
-/// Reads names of the open folder, up to the first that are of more than itself and the folder above it.
-fn read_names(folder: i32, names: &mut [u8]) -> io::Result<usize>
-    ensures { IfOk result (λ n. n ≤ length names.old) }
-{
-    for _ in 0..u64::MAX {
-        let count = os::read_dir(folder, names);
-        match os::errno() {
-            0 | libc::ENOENT => {}
-            error => return Err(io::Error::from_raw_os_error(error)),
-        }
-        if count == 0 || has_entry(&names[..count]) {
-            return Ok(count);
-        }
-    }
-    Ok(0)
-}
-
-fn has_entry(names: &[u8]) -> bool {
-    for name in names.split(|byte| *byte == 0) {
-        if is_entry(name) {
-            return true;
-        }
-    }
-    false
+    true
 }
 
 /// Removes what has that path, where it is there and no folder. A link is removed itself.
@@ -233,17 +228,6 @@ fn remove_file(path: &[u8]) -> io::Result<Left> {
     match os::errno() {
         libc::ENOENT => Ok(Left::Nothing),
         libc::EISDIR => Ok(Left::Folder),
-        error => Err(io::Error::from_raw_os_error(error)),
-    }
-}
-
-/// Removes the folder at this path, where it is there. Nothing is to stand in it.
-fn remove_folder(path: &[u8]) -> io::Result<()> {
-    if os::rmdir(path) == 0 {
-        return Ok(());
-    }
-    match os::errno() {
-        libc::ENOENT => Ok(()),
         error => Err(io::Error::from_raw_os_error(error)),
     }
 }

@@ -136,3 +136,70 @@ fn a_disk_removes_what_it_cannot_name(rt: HostRuntime) -> Result<(), Fail> {
     fs::remove_dir_all(&rt, root)?;
     Ok(())
 }
+
+/// Another file of an artifact.
+const OTHER: &str = "packages/artifacts/B/1.0.0/g";
+
+/// Puts a name that is no text beside the first artifact, and keeps everybody from removing what stands there: others than
+/// root by the folder's mode, and root by a mark of the files, where the file system has it.
+const HOLD: &str =
+    "mkdir logs && cd packages/artifacts/A/1.0.0 && name=$(printf 'n\\344me') && echo x > \"$name\" \
+    && chmod 555 . && { chattr +i f \"$name\" || true; }";
+
+/// Whether somebody else is kept from removing it too: ends with 0 where that is so.
+const TRY: &str = "! rm -f packages/artifacts/A/1.0.0/f";
+
+/// What is to be there then: what is held, and nothing else of the artifacts, and a line of the log for each of the two.
+const HELD: &str =
+    "test \"$(cat packages/artifacts/A/1.0.0/f)\" = xyz && test \"$(ls -A packages/artifacts)\" = A \
+    && test \"$(ls -A packages/artifacts/A/1.0.0 | wc -l)\" -eq 2 && grep -q 'not-removed \"packages/artifacts/A/1.0.0/f\": ' logs/events \
+    && grep -q 'not-removed \"packages/artifacts/A/1.0.0/n.*me\": ' logs/events";
+
+/// Lets everything be removed again.
+const RELEASE: &str = "cd packages/artifacts/A/1.0.0 && chmod 755 . && { chattr -i * || true; }";
+
+/// Whether a sweep removes what it may, twice, and whatever was held once it is released. The faults of the disk would end it.
+fn removes_what_it_may<D: Disk>(rt: &HostRuntime, disk: &mut D, root: &str) -> Result<bool, Fail> {
+    let alloc = rt.alloc();
+    let are_listed = lists(alloc, disk, &[FILE, OTHER]);
+    disk.remove(FILE)?;
+    disk.remove(OTHER)?;
+    let stays = lists(alloc, disk, &[FILE]) && disk.remove(FILE).is_ok();
+    let held = ends_with(rt, root, HELD)?;
+    let released = ends_with(rt, root, RELEASE)?;
+    let is_removed = disk.remove(FILE).is_ok() && lists(alloc, disk, &[]);
+    Ok(
+        are_listed
+            && stays
+            && held == Some(Exit::Code(0))
+            && released == Some(Exit::Code(0))
+            && is_removed,
+    )
+}
+
+/// Whether that is so of two files of which the first is held. Where nothing holds it, as it may be for root, nothing is
+/// asked.
+fn passes_over_what_is_held<D: Disk>(
+    rt: &HostRuntime,
+    disk: &mut D,
+    root: &str,
+) -> Result<bool, Fail> {
+    write_file(disk, FILE, b"xyz")?;
+    write_file(disk, OTHER, b"uvw")?;
+    let made = ends_with(rt, root, HOLD)?;
+    let tried = ends_with(rt, root, TRY)?;
+    let is_held = tried == Some(Exit::Code(0));
+    Ok(made == Some(Exit::Code(0)) && (!is_held || removes_what_it_may(rt, disk, root)?))
+}
+
+#[test]
+fn a_sweep_passes_over_what_it_may_not_remove(rt: HostRuntime) -> Result<(), Fail> {
+    let root = "held-of-a-test";
+    fs::create_dir_all(&rt, root)?;
+    let mut disk = FileDisk::new(&rt, root, Access::Write)?;
+    let is_passed = passes_over_what_is_held(&rt, &mut disk, root);
+    drop(disk);
+    assert!(rt; is_passed?);
+    fs::remove_dir_all(&rt, root)?;
+    Ok(())
+}
