@@ -7,6 +7,7 @@ mod documents;
 mod events;
 mod logs;
 mod paths;
+mod places;
 mod window;
 mod words;
 
@@ -14,5 +15,6 @@ pub use documents::{is_file, json_names, read_prefix};
 pub use events::{Event, EventLog};
 pub use logs::{LOG_LIMIT, open_log};
 pub use paths::{LONGEST_NAME, Paths, folder_of, is_within, make_folder, sync_folder};
+pub use places::is_same_folder;
 pub use window::{Window, read_full};
 pub use words::absolute_words;

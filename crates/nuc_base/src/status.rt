@@ -25,6 +25,7 @@ pub enum Status {
     Stale,
     Absent,
     Differs,
+    Moved,
     Restart,
     Reboot,
 }
@@ -56,6 +57,7 @@ impl Status {
             Status::Stale => 18,
             Status::Absent => 19,
             Status::Differs => 20,
+            Status::Moved => 21,
             Status::Restart => 100,
             Status::Reboot => 101,
         }

@@ -142,6 +142,8 @@ fn steps_in(alloc: Global, lifecycle: &Tree) -> Result<Steps, RecipeFault>
     let first = first_steps(alloc, lifecycle, outer.as_slice())?;
     let last = last_steps(alloc, lifecycle, outer.as_slice())?;
     if has_both(lifecycle) {
+        drop(last);
+        drop(first);
         return Err(RecipeFault::RunAndStartup);
     }
     Ok(Steps { first, last })

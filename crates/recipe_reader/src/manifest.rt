@@ -28,12 +28,17 @@ fn chosen_in(alloc: Global, manifest: &Tree) -> Result<Chosen, RecipeFault>
     ensures { AnswerBy OutOfMemory (chosen_lines (view manifest.now)) (IsChosen (Some (view manifest.now))) result }
 {
     let steps = steps_of(alloc, manifest)?;
-    let artifacts = artifacts_of(alloc, manifest)?;
-    Ok(Chosen {
-        steps,
-        boot_back: back_of(manifest),
-        artifacts,
-    })
+    match artifacts_of(alloc, manifest) {
+        Ok(artifacts) => Ok(Chosen {
+            steps,
+            boot_back: back_of(manifest),
+            artifacts,
+        }),
+        Err(fault) => {
+            drop(steps);
+            Err(fault)
+        }
+    }
 }
 
 /// What a recipe without manifests says.

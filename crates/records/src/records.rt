@@ -118,24 +118,34 @@ fn record_of(alloc: Global, bytes: &[u8]) -> Result<Record, Stop>
     ensures { ReadOutcome record_view result (layout.record_of bytes.now) }
 {
     match bytes {
-        [0x11, rest @ ..] => Ok(Record::Genesis(all_of(alloc, rest)?)),
-        [0x12, rest @ ..] => accepted_of(alloc, rest),
-        [0x13, rest @ ..] => Ok(Record::BootBegun(all_of(alloc, rest)?)),
-        [0x14, rest @ ..] => ended_boot_of(alloc, rest),
-        [0x15, rest @ ..] => {
+        [first, rest @ ..] => tagged_of(alloc, *first, rest),
+        [] => Err(Stop::Bad),
+    }
+}
+
+#[tactic(auto, unfolding(crate::specs::Layout::record_of))]
+fn tagged_of(alloc: Global, first: u8, rest: &[u8]) -> Result<Record, Stop>
+    ensures { ReadOutcome record_view result (layout.record_of (first ∷ rest.now)) }
+{
+    match first {
+        0x11 => Ok(Record::Genesis(all_of(alloc, rest)?)),
+        0x12 => accepted_of(alloc, rest),
+        0x13 => Ok(Record::BootBegun(all_of(alloc, rest)?)),
+        0x14 => ended_boot_of(alloc, rest),
+        0x15 => {
             all_of::<()>(alloc, rest)?;
             Ok(Record::Activating)
         }
-        [0x16, rest @ ..] => failed_step_of(alloc, rest),
-        [0x17, rest @ ..] => Ok(Record::Failing(all_of(alloc, rest)?)),
-        [0x18, rest @ ..] => Ok(Record::Closed(all_of(alloc, rest)?)),
-        [0x19, rest @ ..] => turned_of(alloc, rest),
-        [0x1a, rest @ ..] => grouped_of(alloc, rest),
-        [0x1b, rest @ ..] => Ok(Record::Kept(all_of(alloc, rest)?)),
-        [0x1c, rest @ ..] => ended_of(alloc, rest),
-        [0x1d, rest @ ..] => accepted_revised_of(alloc, rest),
-        [0x1e, rest @ ..] => grouped_revised_of(alloc, rest),
-        [0x1f, rest @ ..] => Ok(Record::FailingBack(all_of(alloc, rest)?)),
+        0x16 => failed_step_of(alloc, rest),
+        0x17 => Ok(Record::Failing(all_of(alloc, rest)?)),
+        0x18 => Ok(Record::Closed(all_of(alloc, rest)?)),
+        0x19 => turned_of(alloc, rest),
+        0x1a => grouped_of(alloc, rest),
+        0x1b => Ok(Record::Kept(all_of(alloc, rest)?)),
+        0x1c => ended_of(alloc, rest),
+        0x1d => accepted_revised_of(alloc, rest),
+        0x1e => grouped_revised_of(alloc, rest),
+        0x1f => Ok(Record::FailingBack(all_of(alloc, rest)?)),
         _ => Err(Stop::Bad),
     }
 }

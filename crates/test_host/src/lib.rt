@@ -1,7 +1,7 @@
 //! What the real objects make of a folder and of children.
 //!
-//! It promises nothing of its own: it holds the tests of `host_edges`, in a crate of their own so that its library is not
-//! proved again for them. It stands on `host_edges`.
+//! It promises nothing of its own: it holds the tests of the real objects and of `store_root`, in a crate of their own so that
+//! their libraries are not proved again for them. It stands on these crates.
 #![tactic(auto)]
 
 #[cfg(test)]
@@ -10,6 +10,8 @@ mod artifacts;
 mod children;
 #[cfg(test)]
 mod objects;
+#[cfg(test)]
+mod roots;
 #[cfg(test)]
 mod steps;
 #[cfg(test)]

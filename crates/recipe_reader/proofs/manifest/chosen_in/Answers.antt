@@ -19,18 +19,16 @@ returns-in_err-steps c =
     handed_on NoMemory (chosen_lines v) (IsChosen (Some v)) _ f c.from_residual.ensures.1
     (fault_1_of_2 NoMemory (optional (spelled Lifecycle) v lifecycle_lines) (optional (spelled Artifacts) v artifacts_lines) f c.in_err-steps.ensures)
 
-pub returns-in_err-artifacts : goal.returns-in_err-artifacts
-returns-in_err-artifacts c =
+pub returns-in-Err : goal.returns-in-Err
+returns-in-Err c =
     let v = view c.args.manifest.now in
-    let f = c.in_err-artifacts.field-0.0 in
-    handed_on NoMemory (chosen_lines v) (IsChosen (Some v)) _ f c.from_residual-in_err-artifacts.ensures.1
-    (fault_2_of_2 NoMemory (optional (spelled Lifecycle) v lifecycle_lines) (optional (spelled Artifacts) v artifacts_lines) f c.in_ok-steps.ensures.0
-    c.in_err-artifacts.ensures)
+    fault_2_of_2 NoMemory (optional (spelled Lifecycle) v lifecycle_lines) (optional (spelled Artifacts) v artifacts_lines) c.in-Err.fault c.in_ok-steps.ensures.0
+    c.in-Err.ensures
 
-pub returns : goal.returns
-returns c =
+pub returns-in-Ok : goal.returns-in-Ok
+returns-in-Ok c =
     let v = view c.args.manifest.now in (
       all_2 (optional (spelled Lifecycle) v lifecycle_lines) (optional (spelled Artifacts) v artifacts_lines) c.in_ok-steps.ensures.0
-          c.in_ok-artifacts.ensures.0,
-      record { steps = c.in_ok-steps.ensures.1; boot_back = c.back_of.ensures; artifacts = c.in_ok-artifacts.ensures.1 },
+          c.in-Ok.ensures.0,
+      record { steps = c.in_ok-steps.ensures.1; boot_back = c.back_of.ensures; artifacts = c.in-Ok.ensures.1 },
     )
