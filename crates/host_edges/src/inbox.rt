@@ -135,10 +135,12 @@ impl<'a, R: Files<File = File> + Clock + AllocGlobal> Listed<'a, R> {
     }
 
     fn list(&mut self) -> io::Result<()> {
-        self.names = self.tray.list_inbox()?;
-        self.names.reverse();
-        self.taken = self.tray.list_taken()?;
-        self.taken.reverse();
+        let mut names = self.tray.list_inbox()?;
+        let mut taken = self.tray.list_taken()?;
+        names.reverse();
+        taken.reverse();
+        self.names = names;
+        self.taken = taken;
         Ok(())
     }
 

@@ -101,7 +101,7 @@ impl<'a, R: Files<File = File> + Clock + AllocGlobal> Tray<'a, R> {
             Ok(found) => found,
             Err(error) if error.kind() == ErrorKind::OutOfMemory => return Err(error),
             Err(error) => {
-                self.told.pass_over_for("", TAKEN, &error);
+                self.told.pass_over_for(".", TAKEN, &error);
                 JsonNames::none(self.rt.alloc())
             }
         };
