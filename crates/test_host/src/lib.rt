@@ -13,4 +13,6 @@ mod objects;
 #[cfg(test)]
 mod steps;
 #[cfg(test)]
+mod stubborn;
+#[cfg(test)]
 mod words;
