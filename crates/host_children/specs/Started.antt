@@ -26,3 +26,7 @@ said_of name variables = var_after (λ k. Some k) (λ v. Some v) name None varia
 -- the script that ends the group of this leader
 abbrev pub end_script : ℕ → List ℕ
 end_script leader = codes "kill -s KILL -- -" ++ decimal leader
+
+-- the script that ends this process alone
+abbrev pub end_alone_script : ℕ → List ℕ
+end_alone_script process = codes "kill -s KILL -- " ++ decimal process

@@ -6,17 +6,18 @@ ghost use Rattle.step_runner.specs.Entries.{without};
 ghost use Rattle.step_runner.specs.Waits.{is_own};
 ghost use Rattle.host_children.specs.Ends.{ended_as, is_own_or_none};
 
-use crate::programs::group_killer;
+use crate::keeper::{Keeper, StepProcess};
 use nuc_base::Exit;
-use std::alloc::Global;
-use std::io;
+use std::fs::{File, Files};
 use std::process::{Child, OpenProcess, Processes};
+use std::rt::Clock;
 
 /// A child that lives: it has not ended, or its end was not told yet.
 #[derive(Drop)]
 pub(crate) struct Running<P: OpenProcess> {
     pub(crate) number: u64,
-    process: Child<P>,
+    /// What was started for it, until that is handed back to whoever started it.
+    step: Option<StepProcess<P>>,
     /// How it ended, where that was seen.
     ended: Option<Exit>,
     ghost own: { is_own_or_none ended ≡ true },
@@ -33,7 +34,7 @@ fn exit_of(code: Option<i32>) -> Exit
 }
 
 /// How the child ended, if it has.
-fn poll<P: OpenProcess>(child: &mut Child<P>) -> Option<Exit>
+pub(crate) fn poll<P: OpenProcess>(child: &mut Child<P>) -> Option<Exit>
     ensures own { IfSome result (λ exit. is_own exit ≡ true) }
     ensures its_own { IfSome result (λ exit. (exit ≡ Exit.Lost) ⊎
         ((status : ExitStatus) × (child_status child.new ≡ Some status) × (exit ≡ ended_as (exit_code status)))) }
@@ -46,12 +47,12 @@ fn poll<P: OpenProcess>(child: &mut Child<P>) -> Option<Exit>
 }
 
 impl<P: OpenProcess> Running<P> {
-    pub(crate) fn new(number: u64, process: Child<P>) -> Self
+    pub(crate) fn new(number: u64, step: StepProcess<P>) -> Self
         ensures { result.number ≡ number }
     {
         Running {
             number,
-            process,
+            step: Some(step),
             ended: None,
         }
     }
@@ -60,35 +61,35 @@ impl<P: OpenProcess> Running<P> {
     fn look(&mut self)
         ensures { self.new.number ≡ self.old.number }
     {
-        if self.ended.is_none() {
-            self.ended = poll(&mut self.process);
+        if self.ended.is_some() {
+            return;
+        }
+        if let Some(step) = &mut self.step {
+            self.ended = poll(&mut step.process);
+        }
+    }
+
+    /// Of which component it is, where that was not handed back.
+    pub(crate) fn component(&self) -> Option<&str> {
+        match &self.step {
+            Some(step) => Some(step.component.as_str()),
+            None => None,
         }
     }
 }
 
-impl<P: OpenProcess> Running<P> {
-    /// Ends it where it has not ended, and where that is asked for what else lives in its group. One whose end was seen was
-    /// waited for, so its number may be another's.
-    fn end<R: Processes>(&mut self, rt: &R, alloc: Global, with_group: bool)
-        ensures { self.new.number ≡ self.old.number }
-    {
-        if self.ended.is_some() {
-            return;
-        }
-        let _ = self.process.kill();
-        if with_group {
-            let _ = end_group(rt, alloc, self.process.id());
-        }
-        let _ = self.process.wait();
-    }
-
-    /// The same where it has this number. Another one stays as it is.
-    fn end_numbered<R: Processes>(&mut self, rt: &R, alloc: Global, number: u64, with_group: bool)
-        ensures number { self.new.number ≡ self.old.number }
-        ensures other { self.old.number ≢ number → self.new ≡ self.old }
-    {
-        if self.number == number {
-            self.end(rt, alloc, with_group);
+/// Has the child with this number seen off: where it has not ended it is killed. Another one stays as it is.
+fn see_off_numbered<R: Processes + Clock + Files<File = File> + AllocGlobal>(
+    child: &mut Running<R::Started>,
+    keeper: &mut Keeper<'_, R>,
+    number: u64,
+)
+    ensures number { child.new.number ≡ child.old.number }
+    ensures other { child.old.number ≢ number → child.new ≡ child.old }
+{
+    if child.number == number {
+        if let Some(step) = child.step.take() {
+            keeper.see_off(step, child.ended);
         }
     }
 }
@@ -116,19 +117,17 @@ pub(crate) fn first_ended<P: OpenProcess>(children: &[Running<P>]) -> Option<(u6
     None
 }
 
-/// Ends the child with this number, with its group where that is asked for, and no other.
+/// Has the child with this number seen off, and no other.
 #[tactic(auto, using(crate::proofs::Numbers::kept_set))]
-fn end_among<R: Processes>(
-    rt: &R,
-    alloc: Global,
+fn end_among<R: Processes + Clock + Files<File = File> + AllocGlobal>(
+    keeper: &mut Keeper<'_, R>,
     children: &mut Vec<Running<R::Started>>,
     number: u64,
-    with_group: bool,
 )
     ensures others { filter (λ c. not (c.number == number)) children.new.items ≡ filter (λ c. not (c.number == number)) children.old.items }
 {
     for child in children.iter_mut() {
-        child.end_numbered(rt, alloc, number, with_group);
+        see_off_numbered(child, keeper, number);
     }
 }
 
@@ -141,26 +140,15 @@ fn forget_numbered<P: OpenProcess + Drop>(children: &mut Vec<Running<P>>, number
     children.retain(|child| child.number != number);
 }
 
-/// Ends the child with this number, with its group where that is asked for, and drops it. Each other one stays as it is.
-pub(crate) fn remove_numbered<R: Processes>(
-    rt: &R,
-    alloc: Global,
+/// Has the child with this number seen off, and drops it. Each other one stays as it is.
+pub(crate) fn remove_numbered<R: Processes + Clock + Files<File = File> + AllocGlobal>(
+    keeper: &mut Keeper<'_, R>,
     children: &mut Vec<Running<R::Started>>,
     number: u64,
-    with_group: bool,
 )
     ensures left { children.new.items ≡ filter (λ c. not (c.number == number)) children.old.items }
     ensures numbers { map (λ c. c.number) children.new.items ≡ without number (map (λ c. c.number) children.old.items) }
 {
-    end_among(rt, alloc, children, number, with_group);
+    end_among(keeper, children, number);
     forget_numbered(children, number);
-}
-
-/// Ends what lives in the group that this process leads. It was not waited for, so its number is still its own.
-fn end_group<R: Processes>(rt: &R, alloc: Global, leader: u32) -> io::Result<()> {
-    let mut killer = group_killer(alloc, leader)?;
-    let ended = killer.status(rt);
-    drop(killer);
-    ended?;
-    Ok(())
 }

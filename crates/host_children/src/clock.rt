@@ -42,3 +42,22 @@ pub(crate) fn pause_after(quiet: u64) -> u64
 {
     (quiet / 16).max(SHORT_PAUSE_MS).min(LONG_PAUSE_MS)
 }
+
+/// How many milliseconds all kills wait together that follow one another with no start and no wait between them, as those of
+/// one stop do.
+pub(crate) const PATIENCE_MS: u64 = 5_000;
+
+/// How many milliseconds of the patience that is left one kill may wait: four fifths, so that whatever lives on leaves some to
+/// those behind it, and all wait less than the whole.
+pub(crate) fn share_of(patience: u64) -> u64
+    ensures { result ≤ patience }
+{
+    patience - patience / 5
+}
+
+/// How long to sleep where an end was waited for so long.
+pub(crate) fn pause_within(waited: u64) -> u64
+    ensures { result ≡ min 40 (max 1 (waited / 8)) }
+{
+    (waited / 8).max(1).min(LONG_PAUSE_MS)
+}

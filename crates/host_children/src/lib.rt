@@ -6,7 +6,11 @@
 
 mod children;
 mod clock;
+mod earlier;
+mod keeper;
+mod notes;
 mod output;
+mod processes;
 mod programs;
 mod runner;
 

@@ -1,7 +1,7 @@
 //! What the system is given to start.
 ghost use Rattle.std.specs.Prelude.{◌≡◌, ◌++◌, ◌∷◌, [], ℕ, List, Some, None, false, IfOk, OnOk, codes};
 ghost use Rattle.std.specs.Process.{command_program, command_args, command_var, command_dir, clears_env, var_after, SameProgramAndArgs, SameEnv, SameOtherVars};
-ghost use Rattle.host_children.specs.Started.{shell_path, program_of, words_of, script_words, said_of, end_script};
+ghost use Rattle.host_children.specs.Started.{shell_path, program_of, words_of, script_words, said_of, end_script, end_alone_script};
 
 use crate::output::direct_output;
 use host_files::is_file;
@@ -220,14 +220,31 @@ fn add_variables(child: &mut process::Command, variables: &[(Text, Text)]) -> Re
     Ok(())
 }
 
+/// What the system is given to end the process with this number.
+pub(crate) fn process_killer(alloc: Global, process: u32) -> Result<process::Command, AllocError>
+    ensures program { IfOk result (λ c. command_program c ≡ codes "sh") }
+    ensures words { IfOk result (λ c. command_args c ≡ script_words (end_alone_script process)) }
+{
+    let script = format!(in alloc; "kill -s KILL -- {process}")?;
+    killer(alloc, script.as_str())
+}
+
 /// What the system is given to end what lives in the group that this process leads.
 pub(crate) fn group_killer(alloc: Global, leader: u32) -> Result<process::Command, AllocError>
     ensures program { IfOk result (λ c. command_program c ≡ codes "sh") }
     ensures words { IfOk result (λ c. command_args c ≡ script_words (end_script leader)) }
 {
     let script = format!(in alloc; "kill -s KILL -- -{leader}")?;
+    killer(alloc, script.as_str())
+}
+
+/// A shell that runs this script.
+fn killer(alloc: Global, script: &str) -> Result<process::Command, AllocError>
+    ensures program { IfOk result (λ c. command_program c ≡ codes "sh") }
+    ensures words { IfOk result (λ c. command_args c ≡ script_words script.now) }
+{
     let mut killer = silent(alloc, "sh")?;
-    match add_script(&mut killer, script.as_str()) {
+    match add_script(&mut killer, script) {
         Ok(()) => Ok(killer),
         Err(error) => {
             drop(killer);

@@ -5,20 +5,16 @@ ghost use Rattle.step_runner.specs.Waits.{RoseAtLost, is_own};
 
 use crate::children::{Running, first_ended, look_at, remove_numbered};
 use crate::clock::{LAST_MOMENT, millis_since, moment_at, pause_after};
-use crate::programs::{Shell, is_on_path, prepared};
+use crate::keeper::Keeper;
+use crate::programs::{Shell, is_on_path};
 use nuc_base::{Exit, Text};
-use std::alloc::Global;
-use std::fs::{DirBuilder, File, Files};
+use std::fs::{File, Files};
 use std::io::ErrorKind;
-use std::os::unix::fs::DirBuilderExt;
-use std::process::{Child, Processes};
+use std::process::Processes;
 use std::rt::{Clock, Env};
 use std::time::{Duration, Instant};
 use std::{fs, io, thread};
 use step_runner::{Command, Runner, RunnerFault, Waited};
-
-/// Folders are their owner's alone.
-const FOLDER_MODE: u32 = 0o700;
 
 /// Runs each command as `sh -c SCRIPT` in its folder, which is made as needed, with the command's variables added to
 /// the environment. `sh` is that of the PATH with which the program was started, whatever PATH the command sets, the first
@@ -26,7 +22,14 @@ const FOLDER_MODE: u32 = 0o700;
 /// the log of its component where there is a folder of logs, and else dropped, on the standard error too: what it starts may
 /// live on, and whoever reads this program's output would wait for that. Where the program `setsid` is found in the same way,
 /// each child leads a process group of its own. A kill ends the child and what else lives in its group, and waits for the
-/// child. Ends are found by looking at all children, with a pause between that grows while nothing stirs. It tells no list.
+/// child: kills that follow one another with no start and no wait between them wait five seconds together, each four fifths of
+/// what is left of that. A child that lives on behind it is named in the log of events, and is none of the runner's any more. A
+/// start that the system cannot do now is tried for two seconds. Ends are found by looking at all children, with a pause between
+/// that grows while nothing stirs. It tells no list.
+///
+/// Children that live are noted in the file `children` of `root`. What lives of those that an earlier call noted is ended at the
+/// first call of `start`, `wait` or `kill`: a call that was killed left them. Where there is a folder of logs, starts, ends, kills
+/// and what lives on stand in its log of events, and a component's in its own log too.
 ///
 /// Moments are milliseconds of a clock that stands still where this program did not look: it goes on where a look found
 /// that no child has ended, and from a start, from which the time of a step counts, as the moment told before. So the ends
@@ -34,9 +37,7 @@ const FOLDER_MODE: u32 = 0o700;
 #[derive(Drop)]
 pub struct ShellRunner<'a, R: Processes + Clock> {
     rt: &'a R,
-    alloc: Global,
-    root: &'a str,
-    shell: Shell,
+    keeper: Keeper<'a, R>,
     start: Option<Instant>,
     children: Vec<Running<R::Started>>,
     next: u64,
@@ -56,19 +57,16 @@ pub struct ShellRunner<'a, R: Processes + Clock> {
 impl<'a, R: Processes + Clock + Files<File = File> + Env + AllocGlobal> ShellRunner<'a, R> {
     ghost use Rattle.host_children.specs.Real.{runner_living, runner_faults};
 
-    /// It begins with no child. `root` is the folder in which the folder of logs is looked for.
+    /// It begins with no child. `root` is the folder in which the folder of logs and the notes of children are looked for.
     pub fn new(rt: &'a R, root: &'a str) -> Self
         ensures living { runner_living result ≡ [] }
         ensures faults { runner_faults result ≡ 0 }
     {
-        let alloc = rt.alloc();
         ShellRunner {
             rt,
-            alloc,
-            root,
-            shell: Shell::find(rt),
+            keeper: Keeper::new(rt, root, Shell::find(rt)),
             start: Instant::now(rt).ok(),
-            children: Vec::new(alloc),
+            children: Vec::new(rt.alloc()),
             next: 0,
             clock: 0,
             told: 0,
@@ -94,27 +92,6 @@ fn counted(faults: u64, exit: Exit) -> u64
     }
 }
 
-fn make_folder<R: Files>(files: &R, folder: &str) -> io::Result<()> {
-    DirBuilder::new()
-        .recursive(true)
-        .mode(FOLDER_MODE)
-        .create(files, folder)
-}
-
-fn spawn<R: Processes + Files<File = File>>(
-    rt: &R,
-    alloc: Global,
-    root: &str,
-    shell: &Shell,
-    command: &Command,
-) -> io::Result<Child<R::Started>> {
-    make_folder(rt, command.folder.as_str())?;
-    let mut prepared = prepared(rt, alloc, root, shell, command)?;
-    let child = prepared.spawn(rt);
-    drop(prepared);
-    child
-}
-
 impl<'a, R: Processes + Clock + Files<File = File> + Env + AllocGlobal> ShellRunner<'a, R> {
     ghost use Rattle.host_children.specs.Real.{runner_living};
 
@@ -132,8 +109,8 @@ impl<'a, R: Processes + Clock + Files<File = File> + Env + AllocGlobal> ShellRun
             return Err(io::Error::from(ErrorKind::QuotaExceeded));
         }
         self.children.reserve(1)?;
-        let child = spawn(self.rt, self.alloc, self.root, &self.shell, command)?;
-        self.children.insert(0, Running::new(number, child))?;
+        let step = self.keeper.start(command)?;
+        self.children.insert(0, Running::new(number, step))?;
         self.next = number + 1;
         self.stirred = self.clock;
         if let Some(millis) = millis_since(self.rt, &self.start) {
@@ -142,16 +119,15 @@ impl<'a, R: Processes + Clock + Files<File = File> + Env + AllocGlobal> ShellRun
         Ok(())
     }
 
-    /// Ends a child where it has not ended, with its group where that is asked for, and drops it. Each other child stays as
-    /// it is, with its number.
+    /// Ends a child where it has not ended, and drops it. Each other child stays as it is, with its number.
     #[tactic(auto, using(crate::proofs::Numbers::numbers_left))]
-    fn end_child(&mut self, child: u64, with_group: bool)
+    fn end_child(&mut self, child: u64)
         ensures left { self.new.children.items ≡ filter (λ c. not (c.number == child)) self.old.children.items }
         ensures living { runner_living self.new ≡ without child (runner_living self.old) }
         ensures same { (self.new.next ≡ self.old.next) × (self.new.clock ≡ self.old.clock) × (self.new.told ≡ self.old.told) ×
             (self.new.asked ≡ self.old.asked) × (self.new.faults ≡ self.old.faults) }
     {
-        remove_numbered(self.rt, self.alloc, &mut self.children, child, with_group);
+        remove_numbered(&mut self.keeper, &mut self.children, child);
     }
 
     /// The first end that is still to be told. Where there is none it looks at all children, and where none has ended the
@@ -195,6 +171,8 @@ impl<'a, R: Processes + Clock + Files<File = File> + Env + AllocGlobal> ShellRun
             return ended;
         }
         'polling: while self.clock < until {
+            self.keeper
+                .turn_logs(self.children.as_slice(), self.clock);
             let pause = pause_after(self.clock.saturating_sub(self.stirred));
             thread::sleep(
                 self.rt,
@@ -230,6 +208,7 @@ impl<'a, R: Processes + Clock + Files<File = File> + Env + AllocGlobal> Runner
     fn start(&mut self, command: &Command) -> Result<u64, RunnerFault> {
         let number = self.next;
         self.asked = false;
+        self.keeper.begin_anew();
         match self.try_start(command) {
             Ok(()) => Ok(number),
             Err(_) => {
@@ -241,11 +220,12 @@ impl<'a, R: Processes + Clock + Files<File = File> + Env + AllocGlobal> Runner
 
     fn wait(&mut self, limit: u64) -> Waited {
         self.asked = false;
+        self.keeper.begin_anew();
         let until = (self.clock + limit).min(LAST_MOMENT);
         match self.poll_until(until) {
             Some((child, exit)) => {
                 self.stirred = self.clock;
-                self.end_child(child, false);
+                self.end_child(child);
                 self.faults = counted(self.faults, exit);
                 Waited::Ended(child, exit)
             }
@@ -255,8 +235,8 @@ impl<'a, R: Processes + Clock + Files<File = File> + Env + AllocGlobal> Runner
 
     fn kill(&mut self, child: u64) {
         self.asked = false;
-        let with_group = self.shell.setsid.is_some();
-        self.end_child(child, with_group);
+        self.keeper.begin();
+        self.end_child(child);
     }
 
     fn moment(&mut self) -> u64 {

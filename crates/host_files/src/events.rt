@@ -13,6 +13,10 @@ use std::{fmt, io};
 /// Something that happened. Names that others gave, and paths, are written as text in quotes, with escapes.
 #[derive(Clone, Copy, Drop)]
 pub enum Event<'e> {
+    /// A component's step is about to be started: the head of what it prints.
+    Starting {
+        component: &'e str,
+    },
     /// A component's step was started, as this process.
     Started {
         component: &'e str,
@@ -110,6 +114,7 @@ impl Display for End {
 impl<'e> Display for Event<'e> {
     fn fmt<W: fmt::Write>(&self, f: &mut fmt::Formatter<W>) -> fmt::Result {
         match *self {
+            Event::Starting { component } => write!(f, "start {component}"),
             Event::Started { component, process } => write!(f, "start {component} {process}"),
             Event::NotStarted { component, error } => {
                 write!(f, "not-started {component}: {error}")
@@ -164,11 +169,16 @@ impl<'a, R: Files<File = File> + Clock> EventLog<'a, R> {
 
     /// Appends a line, where that can be done.
     pub fn tell(&self, event: &Event<'_>) {
-        let _untold = self.append(event);
+        self.tell_in("events", event);
     }
 
-    fn append(&self, event: &Event<'_>) -> io::Result<()> {
-        let mut log = open_log(self.rt, self.alloc, self.root, "events")?;
+    /// Appends it to another log in that folder, by the log's name.
+    pub fn tell_in(&self, name: &str, event: &Event<'_>) {
+        let _untold = self.append(name, event);
+    }
+
+    fn append(&self, name: &str, event: &Event<'_>) -> io::Result<()> {
+        let mut log = open_log(self.rt, self.alloc, self.root, name)?;
         let line = self.line(event)?;
         log.write_all(line.as_bytes())
     }

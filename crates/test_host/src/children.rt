@@ -1,9 +1,11 @@
+use crate::stubborn::Stubborn;
 use host_children::ShellRunner;
 use nuc_base::{Exit, List, NoMemory, Text};
 use std::alloc::Global;
+use std::cell::Cell;
 use std::os::unix::fs::{PermissionsExt, symlink};
 use std::test::Fail;
-use std::time::Duration;
+use std::time::{Duration, Instant};
 use std::{env, fs, thread};
 use step_runner::{Command, Runner, Waited};
 
@@ -380,10 +382,11 @@ fn ends_alike<R: Runner>(rt: &HostRuntime, runner: &mut R) -> Result<bool, Fail>
     Ok(without == with && with == Some(Exit::Code(3)) && !is_made)
 }
 
-/// Whether the log has what the child printed.
+/// Whether the log has what the child printed, between its start and its end.
 fn is_logged(rt: &HostRuntime) -> Result<bool, Fail> {
-    let log = fs::read(rt, "logs-of-a-test/logs/A.log")?;
-    Ok(log.as_slice() == b"asked\nrefused\n".as_slice())
+    let log = fs::read_to_string(rt, "logs-of-a-test/logs/A.log")?;
+    let is_whole = log.as_str().lines().count() == 4 && log.as_str().ends_with(" code 3\n");
+    Ok(is_whole && log.as_str().contains(" start A\nasked\nrefused\n20"))
 }
 
 #[test]
@@ -395,5 +398,210 @@ fn what_children_print_goes_to_their_log(rt: HostRuntime) -> Result<(), Fail> {
     assert!(rt; are_alike?);
     assert!(rt; is_logged(&rt)?);
     fs::remove_dir_all(&rt, root)?;
+    Ok(())
+}
+
+/// Starts a step that writes to the file `beats` of its folder again and again, as a child of its shell where that is asked
+/// for, whose end it does not await, and waits for the first.
+fn starts_beating<R: Runner>(rt: &HostRuntime, runner: &mut R, is_left: bool) -> Result<bool, NoMemory> {
+    let beat = "while :; do echo x >> beats; sleep 0.05; done";
+    let left = "(while :; do echo x >> beats; sleep 0.05; done) & exit 0";
+    let script = if is_left { left } else { beat };
+    let command = command(rt.alloc(), "earlier-of-a-test/work/A", script)?;
+    Ok(runner.start(&command).is_ok() && comes(rt, "earlier-of-a-test/work/A/beats"))
+}
+
+/// Whether the file `beats` grows within half a second.
+fn is_beating(rt: &HostRuntime) -> Result<bool, Fail> {
+    let before = fs::metadata(rt, "earlier-of-a-test/work/A/beats")?.len();
+    thread::sleep(rt, Duration::from_millis(500));
+    let after = fs::metadata(rt, "earlier-of-a-test/work/A/beats")?.len();
+    Ok(after > before)
+}
+
+/// Whether what one runner left lives until the first call of another one in the same folder, and no longer.
+fn is_ended_by_a_later_one(rt: &HostRuntime, is_left: bool) -> Result<bool, Fail> {
+    let root = "earlier-of-a-test";
+    fs::create_dir_all(rt, "earlier-of-a-test/logs")?;
+    let mut earlier = ShellRunner::new(rt, root);
+    let is_begun = starts_beating(rt, &mut earlier, is_left) == Ok(true);
+    drop(earlier);
+    let mut later = ShellRunner::new(rt, root);
+    let lived = is_beating(rt)?;
+    let is_quiet = later.wait(0) == Waited::Elapsed;
+    let lives = is_beating(rt)?;
+    drop(later);
+    let events = fs::read_to_string(rt, "earlier-of-a-test/logs/events")?;
+    let is_told = events.as_str().contains(" ended-earlier ");
+    let notes = fs::metadata(rt, "earlier-of-a-test/children")?.len();
+    fs::remove_dir_all(rt, root)?;
+    Ok(is_begun && lived && is_quiet && !lives && is_told && notes == 0)
+}
+
+#[test]
+fn children_of_an_earlier_call_are_ended(rt: HostRuntime) -> Result<(), Fail> {
+    let is_ended = is_ended_by_a_later_one(&rt, false)?;
+    assert!(rt; is_ended);
+    let mut runner = ShellRunner::new(&rt, "earlier-of-a-test");
+    let has_setsid = has_setsid(&rt, &mut runner) == Ok(true);
+    drop(runner);
+    // Without groups a child that outlived its parent is nobody's.
+    if has_setsid {
+        let is_ended = is_ended_by_a_later_one(&rt, true)?;
+        assert!(rt; is_ended);
+    }
+    Ok(())
+}
+
+/// The notes of one runner with one word of them written otherwise, in the place of them.
+fn write_otherwise(rt: &HostRuntime, which: usize) -> Result<(), Fail> {
+    let notes = fs::read_to_string(rt, "earlier-of-a-test/children")?;
+    let mut line = String::new(rt.alloc());
+    for (at, word) in notes.as_str().split_ascii_whitespace().enumerate() {
+        line.push_str(word)?;
+        line.push_str(if at == which { "1 " } else { " " })?;
+    }
+    fs::write(rt, "earlier-of-a-test/children", line.as_str())?;
+    Ok(())
+}
+
+/// Whether a child lives on where that word of its note is another one.
+fn is_left_alone(rt: &HostRuntime, which: usize) -> Result<bool, Fail> {
+    let root = "earlier-of-a-test";
+    let mut earlier = ShellRunner::new(rt, root);
+    let is_begun = starts_beating(rt, &mut earlier, false) == Ok(true);
+    write_otherwise(rt, which)?;
+    let mut later = ShellRunner::new(rt, root);
+    let is_quiet = later.wait(0) == Waited::Elapsed;
+    let lives = is_beating(rt)?;
+    drop(later);
+    // Children are numbered from 0.
+    earlier.kill(0);
+    drop(earlier);
+    fs::remove_dir_all(rt, root)?;
+    Ok(is_begun && is_quiet && lives)
+}
+
+#[test]
+fn whoever_is_no_child_of_an_earlier_call_is_left_alone(rt: HostRuntime) -> Result<(), Fail> {
+    // Its start, the run of the system, and the space of its number.
+    for which in [1, 2, 3] {
+        let lives = is_left_alone(&rt, which)?;
+        assert!(rt; lives, "word {which}");
+    }
+    Ok(())
+}
+
+fn stubborn(rt: &HostRuntime) -> Stubborn<'_> {
+    Stubborn {
+        rt,
+        lives_on: false,
+        refusals: Cell::new(0),
+        speed: 1,
+    }
+}
+
+/// How many milliseconds the kills of two children take that live on whatever is done.
+fn kills_of_two<R: Runner>(rt: &HostRuntime, runner: &mut R, folder: &str) -> Result<Option<u128>, Fail> {
+    let command = command(rt.alloc(), folder, "exec sleep 30").map_err(|_| Fail::new("no memory"))?;
+    let (Ok(first), Ok(second)) = (runner.start(&command), runner.start(&command)) else {
+        return Ok(None);
+    };
+    let begun = Instant::now(rt)?;
+    runner.kill(first);
+    runner.kill(second);
+    Ok(Some(begun.elapsed(rt)?.as_millis()))
+}
+
+#[test]
+fn what_cannot_be_ended_is_let_go(rt: HostRuntime) -> Result<(), Fail> {
+    let root = "let-go-of-a-test";
+    fs::create_dir_all(&rt, "let-go-of-a-test/logs")?;
+    let mut system = stubborn(&rt);
+    system.lives_on = true;
+    let mut runner = ShellRunner::new(&system, root);
+    let took = kills_of_two(&rt, &mut runner, "let-go-of-a-test/work/A")?;
+    let is_quiet = runner.wait(0) == Waited::Elapsed;
+    drop(runner);
+    let events = fs::read_to_string(&rt, "let-go-of-a-test/logs/events")?;
+    let told = events.as_str().lines().filter(|line| line.contains(" lives-on A ")).count();
+    let notes = fs::metadata(&rt, "let-go-of-a-test/children")?.len();
+    fs::remove_dir_all(&rt, root)?;
+    assert!(rt; is_quiet && told == 2);
+    // Both are still noted, for a later call.
+    assert!(rt; notes == 192);
+    // Five seconds for both, and what the programs take that end their groups.
+    assert!(rt; took.is_some_and(|took| took >= 4_000 && took < 12_000), "{took:?}");
+    Ok(())
+}
+
+#[test]
+fn starts_are_tried_again(rt: HostRuntime) -> Result<(), Fail> {
+    let root = "tried-of-a-test";
+    let system = stubborn(&rt);
+    system.refusals.set(10);
+    let mut runner = ShellRunner::new(&system, root);
+    let first = ended(rt.alloc(), &mut runner, root, "exit $END");
+    system.refusals.set(1_000);
+    let second = ended(rt.alloc(), &mut runner, root, "exit $END");
+    drop(runner);
+    fs::remove_dir_all(&rt, root)?;
+    assert!(rt; first == Ok(Some(Exit::Code(3))));
+    // Not for ever.
+    assert!(rt; second == Ok(None));
+    Ok(())
+}
+
+/// Starts a step that prints a little more than two MiB, and lets more than a minute pass.
+fn prints_for_a_minute<R: Runner>(alloc: Global, runner: &mut R) -> Result<bool, NoMemory> {
+    let script = "head -c 2097153 /dev/zero; echo x > printed; exec sleep 30";
+    let command = command(alloc, "turned-of-a-test/work/A", script)?;
+    let Ok(child) = runner.start(&command) else {
+        return Ok(false);
+    };
+    let printed = text(alloc, "turned-of-a-test/work/A/printed")?;
+    let mut is_printed = false;
+    for _ in 0..200 {
+        is_printed = is_printed || (runner.wait(100) == Waited::Elapsed && runner.exists(&printed));
+    }
+    let is_quiet = runner.wait(70_000) == Waited::Elapsed;
+    runner.kill(child);
+    Ok(is_printed && is_quiet)
+}
+
+#[test]
+fn a_long_log_is_cut_while_its_child_lives(rt: HostRuntime) -> Result<(), Fail> {
+    let root = "turned-of-a-test";
+    fs::create_dir_all(&rt, "turned-of-a-test/logs")?;
+    let mut system = stubborn(&rt);
+    system.speed = 30;
+    let mut runner = ShellRunner::new(&system, root);
+    let is_printed = prints_for_a_minute(rt.alloc(), &mut runner) == Ok(true);
+    drop(runner);
+    let now = fs::metadata(&rt, "turned-of-a-test/logs/A.log")?.len();
+    let before = fs::metadata(&rt, "turned-of-a-test/logs/A.log.1")?.len();
+    fs::remove_dir_all(&rt, root)?;
+    assert!(rt; is_printed);
+    assert!(rt; now < 1_000 && before == 1_048_576, "{now} {before}");
+    Ok(())
+}
+
+#[test]
+fn what_happens_to_children_is_told(rt: HostRuntime) -> Result<(), Fail> {
+    let root = "told-of-a-test";
+    fs::create_dir_all(&rt, "told-of-a-test/logs")?;
+    let mut runner = ShellRunner::new(&rt, root);
+    let code = ended(rt.alloc(), &mut runner, "told-of-a-test/work/events", "exit $END");
+    let is_killed = is_killed(rt.alloc(), &mut runner, "told-of-a-test/work/B") == Ok(true);
+    drop(runner);
+    let events = fs::read_to_string(&rt, "told-of-a-test/logs/events")?;
+    let own = fs::read_to_string(&rt, "told-of-a-test/logs/events.log")?;
+    fs::remove_dir_all(&rt, root)?;
+    assert!(rt; code == Ok(Some(Exit::Code(3))) && is_killed);
+    for word in [" start events ", " end events ", " code 3\n", " start B ", " kill B "] {
+        assert!(rt; events.as_str().contains(word), "{word}");
+    }
+    // The log of a component `events` is another one.
+    assert!(rt; own.as_str().lines().count() == 2 && !own.as_str().contains(" B"));
     Ok(())
 }

@@ -17,4 +17,6 @@ mod roots;
 #[cfg(test)]
 mod steps;
 #[cfg(test)]
+mod stubborn;
+#[cfg(test)]
 mod words;

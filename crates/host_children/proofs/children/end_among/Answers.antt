@@ -4,5 +4,5 @@ use Rattle.host_children.proofs.children.end_among.Goals as goal
 
 pub loop-child-preserved : goal.loop-child-preserved
 loop-child-preserved g c =
-    kept_set _ c.args.number c.loop-child.child-items c.loop-child.child-index c.end_numbered.new.self c.child-item.result c.end_numbered.ensures.number
-    c.end_numbered.ensures.other ∙ c.loop-child.invariant
+    kept_set _ c.args.number c.loop-child.child-items c.loop-child.child-index c.see_off_numbered.new.child c.child-item.result c.see_off_numbered.ensures.number
+    c.see_off_numbered.ensures.other ∙ c.loop-child.invariant

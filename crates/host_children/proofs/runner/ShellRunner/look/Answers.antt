@@ -19,3 +19,7 @@ pub returns-else-is_none-clause-lived : goal.returns-else-is_none-clause-lived
 returns-else-is_none-clause-lived g c =
     subst (λ ns. IfSome c.first_ended-ended.result (λ e. Contains ns e.0)) (ap (map (λ r. r.number)) c.as_slice-2.ensures.value ∙ c.look_at.ensures)
     c.first_ended-ended.ensures.lived
+
+pub returns-then-is_some-clause-lived : goal.returns-then-is_some-clause-lived
+returns-then-is_some-clause-lived g c =
+    subst (λ ns. IfSome c.first_ended-untold.result (λ e. Contains ns e.0)) (ap (map (λ r. r.number)) c.as_slice.ensures.value) c.first_ended-untold.ensures.lived

@@ -17,3 +17,20 @@ polling-smaller g c =
     (sym c.if-is_some-2.false ∙ c.is_some-in-polling.ensures) c.look-ended-in-polling.ensures.none in
     let before : c.polling.self.clock < c.args.until = c.polling-test.true in
     omega arith
+
+pub returns-then-is_some-clause-none : goal.returns-then-is_some-clause-none
+returns-then-is_some-clause-none g c =
+    not_none c.look-ended.result (c.args.until ≤ c.look-ended.new.self.clock) (sym c.if-is_some.true ∙ c.is_some.ensures)
+
+pub polling-preserved : goal.polling-preserved
+polling-preserved g c = record {
+  living = c.look-ended-in-polling.ensures.living ∙ c.polling.invariant.living;
+  next = c.look-ended-in-polling.ensures.same.0 ∙ c.polling.invariant.next;
+  told = c.look-ended-in-polling.ensures.same.1 ∙ c.polling.invariant.told;
+  asked = c.look-ended-in-polling.ensures.same.2 ∙ c.polling.invariant.asked;
+  faults = c.look-ended-in-polling.ensures.same.3 ∙ c.polling.invariant.faults;
+  later = omega (arith, c.look-ended-in-polling.ensures.later, c.polling.invariant.later);
+  in_time = c.look-ended-in-polling.new.self.in_time;
+  past = c.look-ended-in-polling.new.self.past;
+  numbered = c.look-ended-in-polling.new.self.numbered;
+}
