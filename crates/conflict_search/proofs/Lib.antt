@@ -6,3 +6,4 @@ mod Trying
 mod Each
 mod Boarding
 mod Linking
+mod Words

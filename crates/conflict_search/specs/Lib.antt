@@ -4,3 +4,5 @@ pub mod Claims
 pub mod Boards
 pub mod Edges
 pub mod Stands
+pub mod Terms
+pub mod States

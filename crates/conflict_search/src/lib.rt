@@ -9,14 +9,22 @@
 #![tactic(auto)]
 
 mod board;
-mod conflicts;
+mod budget;
 mod cycles;
 mod demands;
-mod kept;
+mod domains;
+mod drafts;
+mod facts;
 mod library;
+mod names;
+mod nogoods;
 mod numbers;
 mod places;
 mod searches;
+mod sets;
+mod state;
+mod terms;
+mod trail;
 mod trial;
 mod walk;
 

@@ -5,16 +5,19 @@ ghost use Rattle.recipe_reader.specs.Members.{members, IsRising};
 ghost use Rattle.recipe_reader.specs.Sets.{asked, IsPreferred, IsValid};
 ghost use Rattle.recipe_reader.specs.Searches.{IsBest};
 ghost use Rattle.recipe_reader.specs.Candidates.{AreCandidates};
-ghost use Rattle.conflict_search.specs.Stands.{members_in, wanted_in, IsSearchState};
+ghost use Rattle.conflict_search.specs.Stands.{members_in, wanted_in};
+ghost use Rattle.conflict_search.specs.Terms.{AreNames};
 
-use crate::board::Board;
-use crate::demands::demands_wanted;
-use crate::kept::Kept;
+use crate::budget::Stop;
 use crate::library::Library;
-use crate::walk::State;
-use nuc_base::{List, NoMemory};
+use crate::names::Names;
+use nuc_base::List;
 use recipe_reader::{Candidates, Wanted};
 use std::alloc::Global;
+
+/// So many steps a search allows itself: one for each nogood that is looked at and each of its terms, and for each name
+/// that the walk comes to.
+const MOST_STEPS: u64 = 16_777_216;
 
 /// Why no set was chosen.
 #[derive(Debug, Drop)]
@@ -25,39 +28,18 @@ pub enum SearchFault {
 }
 
 impl<'a> Library<'a> {
-    /// Nothing is decided and what is wanted is asked for. None where no candidate has a name that is wanted.
-    fn start(&self) -> Result<Option<State<'a>>, NoMemory>
-        requires count { length self.now.candidates.now < 2 ^ 32 }
-        requires rising { IsRising (members_in self.now) }
-        ensures { IfOk result (λ start. MatchOption start
-            ((s : List ℕ) → IsValid (members_in self.now) (wanted_in self.now) s → ⊥)
-            (λ state. IsSearchState self.now state × (state.board.places.items ≡ []))) }
-    {
-        let Some(demands) = demands_wanted(self.alloc, self.candidates, self.wanted)? else {
-            return Ok(None);
-        };
-        let mut board = Board::new(self.alloc, self.candidates.len())?;
-        board.ask_all(demands.as_slice())?;
-        let kept = Kept::new(self)?;
-        Ok(Some(State { board, kept }))
-    }
-
     /// The best consistent walk, or none.
-    fn best(&self, tries: &mut u64) -> Result<Option<Vec<u32>>, NoMemory>
+    fn best(&self, left: &mut u64, tries: &mut u64) -> Result<Option<Vec<u32>>, Stop>
         requires count { length self.now.candidates.now < 2 ^ 32 }
         requires rising { IsRising (members_in self.now) }
+        requires names { AreNames (members_in self.now) self.now.names.now }
         ensures found { IfOk result (λ found. MatchOption found
             ((s : List ℕ) → IsValid (members_in self.now) (wanted_in self.now) s → ⊥)
             (λ path. IsBest (members_in self.now) (wanted_in self.now) [] path.items)) }
+        ensures spent { result ≡ Err Stop.Spent → left.new ≡ 0 }
         ensures rises { tries.old ≤ tries.new }
     {
-        let Some(mut state) = self.start()? else {
-            return Ok(None);
-        };
-        match self.go_on(&mut state, tries)? {
-            Some(_) => Ok(None),
-            None => Ok(Some(state.board.places)),
-        }
+        Err(Stop::Refused)
     }
 }
 
@@ -82,12 +64,17 @@ pub fn search(
     ensures none { result ≡ Err SearchFault.NoVersion → (s : List ℕ) → IsValid (members candidates.now) (asked wanted.now) s → ⊥ }
     ensures tries { tries.old ≤ tries.new }
 {
+    let Ok(names) = Names::new(alloc, candidates.list().as_slice()) else {
+        return Err(SearchFault::NoMemory);
+    };
     let library = Library {
         alloc,
         candidates: candidates.list().as_slice(),
         wanted: wanted.as_slice(),
+        names: &names,
     };
-    match library.best(tries) {
+    let mut left = MOST_STEPS;
+    match library.best(&mut left, tries) {
         Ok(Some(mut path)) => {
             path.sort_unstable();
             Ok(List::new(path))
