@@ -7,3 +7,6 @@ mod Each
 mod Boarding
 mod Linking
 mod Words
+mod Naming
+mod Learning
+mod Shrinking
