@@ -8,5 +8,7 @@ mod Boarding
 mod Linking
 mod Words
 mod Naming
+mod Gathering
 mod Learning
+mod Drafting
 mod Shrinking

@@ -2,6 +2,7 @@
 use Rattle.std.proofs.Common.{◌≡◌, ◌≢◌, ◌⊎◌, ℕ, ◌+◌, ◌/◌, ◌%◌, ◌^◌, ◌<◌, ◌≤◌, List, get_or, length, min, max, refl, ◌-◌, ◌*◌, ap, sym, ◌∙◌, inl, inr, arith, eqb, true, ◌↔◌, eq-eqb, eqb-true, w64}
 use Rattle.std.specs.Prelude.{bit_and, bit_or, bit_xor, slice_set}
 use Rattle.std.specs.Int.{bit_at}
+use Rattle.std.specs.List.{All}
 use Rattle.std.proofs.lemmas.Bool.{cases_eq, cases_lt}
 use Rattle.std.proofs.lemmas.List.{get_or_past, get_or-set_same, get_or-set_other}
 use Rattle.std.proofs.lemmas.Nat.Bits.{shr_and_one, bit_at_or, bit_at_and, bit_at_xor, bit_at-zero, bit_at-lt, bit_at_set_same, bit_at_set_other}
@@ -95,10 +96,6 @@ met_at from n old other new w v small h =
         (ap (λ x. bit_at x (v % 64)) (sym (w.done (v / 64) lt)) ∙ has_in new (64 * from + v) (from + v / 64) (v % 64) e f h) in
     has_from other v (v / 64) (v % 64) refl refl both.1
 
--- a set has values for its words alone
-pub has_below : (set : List ℕ) (v : ℕ) → Has set v → v < 64 * length set
-has_below set v h = elim (cases_lt v (64 * length set)) [ inl lt ↦ lt | inr ge ↦ absurd (past set v (omega (arith, ge)) h) ]
-
 pub joined_at_kept : (from n : ℕ) (old other new : List ℕ) → AreWordsAt bit_or from n old other new → (v : ℕ) → Has old v → Has new v
 joined_at_kept from n old other new w v h =
     let bit = has_in old v (v / 64) (v % 64) refl refl h in
@@ -115,6 +112,25 @@ joined_at_kept from n old other new w v h =
             has_from new v (from + j) (v % 64) e refl (ap (λ x. bit_at x (v % 64)) (w.done j small) ∙ omega (arith, or, bit', top)))
       ]
     ]
+
+-- a set has values for its words alone
+pub has_below : (set : List ℕ) (v : ℕ) → Has set v → v < 64 * length set
+has_below set v h = elim (cases_lt v (64 * length set)) [ inl lt ↦ lt | inr ge ↦ absurd (past set v (omega (arith, ge)) h) ]
+
+pub copied : (from : ℕ) (set row : List ℕ) → ((j : ℕ) → j < length set → get_or set j 0 ≡ get_or row (from + j) 0) → (v : ℕ) → Has set v → Has row (64 * from + v)
+copied from set row same v h =
+    let lt = has_below set v h in
+    let small : v / 64 < length set = omega (arith, lt) in
+    let e : (64 * from + v) / 64 ≡ from + v / 64 = omega arith in
+    let f : (64 * from + v) % 64 ≡ v % 64 = omega arith in
+    has_from row (64 * from + v) (from + v / 64) (v % 64) e f (ap (λ x. bit_at x (v % 64)) (sym (same (v / 64) small)) ∙ has_in set v (v / 64) (v % 64) refl refl h)
+
+pub no_bits : (set : List ℕ) → All (λ w. w ≡ 0) set → (v : ℕ) → Has set v → ⊥
+unfolding Has
+no_bits set zeros v h = elim (cases_lt (v / 64) (length set)) [
+  | inr past_end ↦ past set v past_end h
+  | inl lt ↦ (let e : bit_at (get_or set (v / 64) 0) (v % 64) ≡ 0 = ap (λ x. bit_at x (v % 64)) (zeros (v / 64) 0 lt) ∙ bit_at-zero (v % 64) in omega (arith, h, e))
+]
 
 pub met_at_kept : (from n : ℕ) (old other new : List ℕ) → n ≤ length other → AreWordsAt bit_and from n old other new → (v : ℕ) → Has old v →
     Has new v ⊎ ((64 * from ≤ v) × (v - 64 * from < 64 * length other) × (Has other (v - 64 * from) → ⊥))

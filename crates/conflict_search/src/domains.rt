@@ -8,7 +8,7 @@ ghost use Rattle.conflict_search.specs.Stands.{members_in, wanted_in};
 ghost use Rattle.conflict_search.specs.Terms.{AreNames, IsNogood, IsSound, IsWithin, AreOthersWithin, IsLeft, IsGreatestLeft};
 
 use crate::library::Library;
-use crate::sets::{add, has, is_within_at, meet_at, remove_at, word};
+use crate::sets::{add, has, is_within_at, meet_at, none_of, remove_at, word};
 use crate::terms::Term;
 use nuc_base::NoMemory;
 
@@ -30,7 +30,7 @@ pub(crate) fn is_apart(row: &[u64], term: &Term) -> bool {
 }
 
 /// The bit of the place in a row, where the name's places begin at the first.
-fn bit_of(first: u32, place: u32) -> usize
+pub(crate) fn bit_of(first: u32, place: u32) -> usize
     requires { first ≤ place }
     ensures { result ≡ 64 * first + (place + 1 - first) }
 {
@@ -45,11 +45,7 @@ impl<'a> Library<'a> {
         ensures count { IfOk result (λ row. length row.items ≡ length self.now.candidates.now) }
         ensures sound { IfOk result (λ row. (taken : List ℕ) → IsSound (members_in self.now) (wanted_in self.now) taken row.items) }
     {
-        let count = self.candidates.len();
-        let mut row = Vec::with_capacity(self.alloc, count)?;
-        for _word in 0..count {
-            row.push(0)?;
-        }
+        let mut row = none_of(self.alloc, self.candidates.len())?;
         self.fill(&mut row);
         Ok(row)
     }

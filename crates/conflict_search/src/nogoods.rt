@@ -30,6 +30,9 @@ impl Nogoods {
         requires nogoods { AreNogoods (members_in library.now) (wanted_in library.now) self.now }
         ensures { IfSome result (λ terms. IsNogood (members_in library.now) (wanted_in library.now) terms.now) }
     {
-        None
+        match self.list.get(index) {
+            Some(terms) => Some(terms.as_slice()),
+            None => None,
+        }
     }
 }

@@ -1,7 +1,22 @@
 //! Sets of numbers, as words of bits. Clauses say as much as the search needs of them.
 
-ghost use Rattle.std.specs.Prelude.{◌≡◌, ◌⊎◌, ◌↔◌, ℕ, ◌≤◌, ◌<◌, ◌+◌, ◌-◌, ◌*◌, ◌/◌, get_or, length, IsTrue};
+ghost use Rattle.std.specs.Prelude.{◌≡◌, ◌⊎◌, ◌↔◌, ℕ, ◌≤◌, ◌<◌, ◌+◌, ◌-◌, ◌*◌, ◌/◌, get_or, length, IsTrue, IfOk};
 ghost use Rattle.conflict_search.specs.Terms.{Has};
+
+use nuc_base::NoMemory;
+use std::alloc::Global;
+
+/// No number, in so many words.
+pub(crate) fn none_of(alloc: Global, words: usize) -> Result<Vec<u64>, NoMemory>
+    ensures count { IfOk result (λ set. length set.items ≡ words) }
+    ensures empty { IfOk result (λ set. (v : ℕ) → Has set.items v → ⊥) }
+{
+    let mut set = Vec::with_capacity(alloc, words)?;
+    for _word in 0..words {
+        set.push(0)?;
+    }
+    Ok(set)
+}
 
 /// The word at that place, or no bits.
 pub(crate) fn word(set: &[u64], at: usize) -> u64
@@ -79,4 +94,15 @@ pub(crate) fn is_within_at(set: &[u64], from: usize, other: &[u64]) -> bool
         }
     }
     true
+}
+
+/// The set becomes what the row has from the word on.
+pub(crate) fn copy_from(set: &mut [u64], row: &[u64], from: usize)
+    requires room { from + length set.old ≤ length row.now }
+    ensures len { length set.new ≡ length set.old }
+    ensures only { (v : ℕ) → Has set.new v → Has row.now (64 * from + v) }
+{
+    for at in 0..set.len() {
+        set[at] = row[from + at];
+    }
 }
