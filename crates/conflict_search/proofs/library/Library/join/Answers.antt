@@ -24,7 +24,7 @@ meet_at-requires c =
     let t = c.index-terms-index.result in
     let room = term_room c.args.self.now.candidates.now t
         (term_at ms (wanted_in c.args.self.now) c.args.terms.now c.loop-index.index t c.requires.nogood c.loop-index-test.true c.index-terms-index.is) in
-    let count = ap length c.deref-term.ensures.value in
+    let count = ap length c.deref-then-index-at.ensures.value in
     let draft = c.requires.draft in
     let row = draft.count in
     let same = c.loop-index.invariant.0 in
