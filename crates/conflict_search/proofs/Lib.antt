@@ -1,4 +1,4 @@
-mod Nogoods
+mod Prefixes
 mod Indexing
 mod Finding
 mod Claiming

@@ -20,7 +20,7 @@ use Rattle.conflict_search.specs.Claims.{Claim, claims_from, claims_of, demand_n
 use Rattle.conflict_search.specs.Boards.{IsChosen}
 use Rattle.conflict_search.specs.Stands.{IsMetIn}
 use Rattle.conflict_search.specs.declared.demands.Demand.{Demand}
-use Rattle.conflict_search.proofs.Nogoods.{nogood_bad}
+use Rattle.conflict_search.proofs.Prefixes.{nogood_bad}
 use Rattle.conflict_search.proofs.Finding.{number_same}
 use Rattle.conflict_search.proofs.Indexing.{row}
 use Rattle.conflict_search.proofs.Claiming.{IsClaimOf, wanted_claim, need_claim, from_claims, from_claims_from, claim_in, demand_for, claim_for, number_for}
