@@ -1,16 +1,11 @@
 -- Values of words that are joined.
-use Rattle.std.proofs.Common.{◌≡◌, ◌≢◌, ◌⊎◌, ℕ, ◌+◌, ◌/◌, ◌%◌, ◌^◌, ◌<◌, ◌≤◌, List, get_or, length, min, max, refl, ◌-◌, ◌*◌, ap, sym, ◌∙◌, inl, inr, arith, eqb, true, ◌↔◌, eq-eqb, eqb-true}
-use Rattle.std.specs.Prelude.{bit_and, bit_or, bit_xor}
+use Rattle.std.proofs.Common.{◌≡◌, ◌≢◌, ◌⊎◌, ℕ, ◌+◌, ◌/◌, ◌%◌, ◌^◌, ◌<◌, ◌≤◌, List, get_or, length, min, max, refl, ◌-◌, ◌*◌, ap, sym, ◌∙◌, inl, inr, arith, eqb, true, ◌↔◌, eq-eqb, eqb-true, w64}
+use Rattle.std.specs.Prelude.{bit_and, bit_or, bit_xor, slice_set}
 use Rattle.std.specs.Int.{bit_at}
 use Rattle.std.proofs.lemmas.Bool.{cases_eq, cases_lt}
-use Rattle.std.proofs.lemmas.List.{get_or_past}
-use Rattle.std.proofs.lemmas.Nat.Bits.{shr_and_one, bit_at_or, bit_at_and, bit_at_xor, bit_at-zero, bit_at-lt}
+use Rattle.std.proofs.lemmas.List.{get_or_past, get_or-set_same, get_or-set_other}
+use Rattle.std.proofs.lemmas.Nat.Bits.{shr_and_one, bit_at_or, bit_at_and, bit_at_xor, bit_at-zero, bit_at-lt, bit_at_set_same, bit_at_set_other}
 use Rattle.conflict_search.specs.Terms.{Has}
-
--- the first n words are those of f, and the others are as they were
-pub record AreWords (f : ℕ → ℕ → ℕ) (n : ℕ) (old other new : List ℕ) : Type 0 where
-  pub done : (j : ℕ) → j < n → get_or new j 0 ≡ f (get_or old j 0) (get_or other j 0)
-  pub left : (j : ℕ) → n ≤ j → get_or new j 0 ≡ get_or old j 0
 
 or_bit : (a b i : ℕ) → bit_at (bit_or a b) i ≡ 1 → (bit_at a i ≡ 1) ⊎ (bit_at b i ≡ 1)
 or_bit a b i h = elim (cases_eq (bit_at a i) 1) [
@@ -30,44 +25,12 @@ less_bit a b i h = elim (cases_eq (bit_at b i) 1) [
   | inr ne ↦ inl (omega (arith, h, ne, bit_at_xor a (bit_and a b) i, bit_at_and a b i, bit_at-lt a i, bit_at-lt b i))
 ]
 
-pub joined : (n : ℕ) (old other new : List ℕ) → AreWords bit_or n old other new → (v : ℕ) → Has new v → Has old v ⊎ Has other v
-unfolding Has
-joined n old other new w v h = elim (cases_lt (v / 64) n) [
-  | inl lt ↦ or_bit (get_or old (v / 64) 0) (get_or other (v / 64) 0) (v % 64) (ap (λ x. bit_at x (v % 64)) (sym (w.done (v / 64) lt)) ∙ h)
-  | inr le ↦ inl (ap (λ x. bit_at x (v % 64)) (sym (w.left (v / 64) (omega (arith, le)))) ∙ h)
-]
-
 past : (set : List ℕ) (v : ℕ) → length set ≤ v / 64 → Has set v → ⊥
 unfolding Has
 past set v le h = let z : bit_at (get_or set (v / 64) 0) (v % 64) ≡ 0 = ap (λ x. bit_at x (v % 64)) (get_or_past set (v / 64) 0 le) ∙ bit_at-zero (v % 64) in omega (arith, h, z)
 
-pub met : (n : ℕ) (old other new : List ℕ) → length old ≤ n → AreWords bit_and n old other new → (v : ℕ) → Has new v → Has old v × Has other v
-unfolding Has
-met n old other new all w v h = elim (cases_lt (v / 64) n) [
-  | inl lt ↦ and_bit (get_or old (v / 64) 0) (get_or other (v / 64) 0) (v % 64) (ap (λ x. bit_at x (v % 64)) (sym (w.done (v / 64) lt)) ∙ h)
-  | inr le ↦ (let far : n ≤ v / 64 = omega (arith, le) in
-      absurd (past old v (omega (arith, all, far)) (ap (λ x. bit_at x (v % 64)) (sym (w.left (v / 64) far)) ∙ h)))
-]
-
 abbrev pub less_word : ℕ → ℕ → ℕ
 less_word a b = bit_xor a (bit_and a b)
-
-pub removed : (n : ℕ) (old other new : List ℕ) → AreWords less_word n old other new → (v : ℕ) → Has old v → Has new v ⊎ Has other v
-unfolding Has
-removed n old other new w v h = elim (cases_lt (v / 64) n) [
-  | inl lt ↦ elim (less_bit (get_or old (v / 64) 0) (get_or other (v / 64) 0) (v % 64) h) [
-    | inl e ↦ inl (ap (λ x. bit_at x (v % 64)) (w.done (v / 64) lt) ∙ e)
-    | inr e ↦ inr e
-  ]
-  | inr le ↦ inl (ap (λ x. bit_at x (v % 64)) (w.left (v / 64) (omega (arith, le))) ∙ h)
-]
-
-pub within : (n : ℕ) (set other : List ℕ) → length set ≤ n → ((j : ℕ) → j < n → bit_and (get_or set j 0) (get_or other j 0) ≡ get_or set j 0) → (v : ℕ) → Has set v → Has other v
-unfolding Has
-within n set other all each v h = elim (cases_lt (v / 64) n) [
-  | inl lt ↦ (let both = and_bit (get_or set (v / 64) 0) (get_or other (v / 64) 0) (v % 64) (ap (λ x. bit_at x (v % 64)) (each (v / 64) lt) ∙ h) in both.1)
-  | inr le ↦ absurd (past set v (omega (arith, all, le)) h)
-]
 
 pub has_tests : (set : List ℕ) (word v : ℕ) → word ≡ get_or set (v / 64) 0 → (eqb (bit_and (word / 2 ^ (v % 64)) 1) 1 ≡ true) ↔ Has set v
 unfolding Has
@@ -131,3 +94,77 @@ met_at from n old other new w v small h =
     let both = and_bit (get_or old (from + v / 64) 0) (get_or other (v / 64) 0) (v % 64)
         (ap (λ x. bit_at x (v % 64)) (sym (w.done (v / 64) lt)) ∙ has_in new (64 * from + v) (from + v / 64) (v % 64) e f h) in
     has_from other v (v / 64) (v % 64) refl refl both.1
+
+-- a set has values for its words alone
+pub has_below : (set : List ℕ) (v : ℕ) → Has set v → v < 64 * length set
+has_below set v h = elim (cases_lt v (64 * length set)) [ inl lt ↦ lt | inr ge ↦ absurd (past set v (omega (arith, ge)) h) ]
+
+pub joined_at_kept : (from n : ℕ) (old other new : List ℕ) → AreWordsAt bit_or from n old other new → (v : ℕ) → Has old v → Has new v
+joined_at_kept from n old other new w v h =
+    let bit = has_in old v (v / 64) (v % 64) refl refl h in
+    elim (cases_lt (v / 64) from) [
+      | inl lt ↦ has_from new v (v / 64) (v % 64) refl refl (ap (λ x. bit_at x (v % 64)) (w.before (v / 64) lt) ∙ bit)
+      | inr ge ↦ elim (cases_lt (v / 64) (from + n)) [
+        | inr far ↦ has_from new v (v / 64) (v % 64) refl refl (ap (λ x. bit_at x (v % 64)) (w.behind (v / 64) (omega (arith, far))) ∙ bit)
+        | inl lt ↦ (let j : ℕ = v / 64 - from in
+            let e : v / 64 ≡ from + j = omega (arith, ge) in
+            let small : j < n = omega (arith, lt, ge) in
+            let bit' : bit_at (get_or old (from + j) 0) (v % 64) ≡ 1 = has_in old v (from + j) (v % 64) e refl h in
+            let or = bit_at_or (get_or old (from + j) 0) (get_or other j 0) (v % 64) in
+            let top = bit_at-lt (get_or other j 0) (v % 64) in
+            has_from new v (from + j) (v % 64) e refl (ap (λ x. bit_at x (v % 64)) (w.done j small) ∙ omega (arith, or, bit', top)))
+      ]
+    ]
+
+pub removed_at : (from n : ℕ) (old other new : List ℕ) → AreWordsAt less_word from n old other new → (v : ℕ) → Has old v →
+    Has new v ⊎ ((64 * from ≤ v) × Has other (v - 64 * from))
+removed_at from n old other new w v h =
+    let bit = has_in old v (v / 64) (v % 64) refl refl h in
+    elim (cases_lt (v / 64) from) [
+      | inl lt ↦ inl (has_from new v (v / 64) (v % 64) refl refl (ap (λ x. bit_at x (v % 64)) (w.before (v / 64) lt) ∙ bit))
+      | inr ge ↦ elim (cases_lt (v / 64) (from + n)) [
+        | inr far ↦ inl (has_from new v (v / 64) (v % 64) refl refl (ap (λ x. bit_at x (v % 64)) (w.behind (v / 64) (omega (arith, far))) ∙ bit))
+        | inl lt ↦ (let j : ℕ = v / 64 - from in
+            let e : v / 64 ≡ from + j = omega (arith, ge) in
+            let small : j < n = omega (arith, lt, ge) in
+            let bit' : bit_at (get_or old (from + j) 0) (v % 64) ≡ 1 = has_in old v (from + j) (v % 64) e refl h in
+            let low : 64 * from ≤ v = omega (arith, ge) in
+            elim (less_bit (get_or old (from + j) 0) (get_or other j 0) (v % 64) bit') [
+              | inl a ↦ inl (has_from new v (from + j) (v % 64) e refl (ap (λ x. bit_at x (v % 64)) (w.done j small) ∙ a))
+              | inr b ↦ inr (low, has_from other (v - 64 * from) j (v % 64) (omega (arith, low)) (omega (arith, low)) b)
+            ])
+      ]
+    ]
+
+pub within_at : (from : ℕ) (set other : List ℕ) → ((j : ℕ) → j < length other → bit_and (get_or set (from + j) 0) (get_or other j 0) ≡ get_or set (from + j) 0) →
+    (v : ℕ) → v < 64 * length other → Has set (64 * from + v) → Has other v
+within_at from set other each v lt h =
+    let e : (64 * from + v) / 64 ≡ from + v / 64 = omega arith in
+    let f : (64 * from + v) % 64 ≡ v % 64 = omega arith in
+    let small : v / 64 < length other = omega (arith, lt) in
+    let bit = has_in set (64 * from + v) (from + v / 64) (v % 64) e f h in
+    let both = and_bit (get_or set (from + v / 64) 0) (get_or other (v / 64) 0) (v % 64) (ap (λ x. bit_at x (v % 64)) (each (v / 64) small) ∙ bit) in
+    has_from other v (v / 64) (v % 64) refl refl both.1
+
+-- a value is added
+module _ (old new : List ℕ) (value : ℕ) (inside : value / 64 < length old) (set_is : new ≡ slice_set old (value / 64) (bit_or (get_or old (value / 64) 0) (1 * 2 ^ (value % 64) % 2 ^ 64))) where
+  here : get_or new (value / 64) 0 ≡ bit_or (get_or old (value / 64) 0) (1 * 2 ^ (value % 64) % 2 ^ 64)
+  here = ap (λ l. get_or l (value / 64) 0) set_is ∙ get_or-set_same old (value / 64) _ 0 inside
+
+  there : (i : ℕ) → i ≢ value / 64 → get_or new i 0 ≡ get_or old i 0
+  there i ne = ap (λ l. get_or l i 0) set_is ∙ get_or-set_other old (value / 64) i _ 0 ne
+
+  same_bit : (v : ℕ) → (v ≡ value → ⊥) → bit_at (get_or new (v / 64) 0) (v % 64) ≡ bit_at (get_or old (v / 64) 0) (v % 64)
+  same_bit v ne = elim (cases_eq (v / 64) (value / 64)) [
+    | inr other ↦ ap (λ x. bit_at x (v % 64)) (there (v / 64) other)
+    | inl e ↦ (let apart : v % 64 ≢ value % 64 = λ f. ne (omega (arith, e, f)) in
+        ap (λ i. bit_at (get_or new i 0) (v % 64)) e ∙ ap (λ x. bit_at x (v % 64)) here
+        ∙ bit_at_set_other w64 (get_or old (value / 64) 0) (value % 64) (omega arith) (v % 64) apart ∙ ap (λ i. bit_at (get_or old i 0) (v % 64)) (sym e))
+  ]
+
+  pub added : (v : ℕ) → Has new v ↔ (Has old v ⊎ (v ≡ value))
+  unfolding Has
+  added v = elim (cases_eq v value) [
+    | inl e ↦ (λ h. inr e, λ h. rw e (ap (λ x. bit_at x (value % 64)) here ∙ bit_at_set_same w64 (get_or old (value / 64) 0) (value % 64) (omega arith)))
+    | inr ne ↦ (λ h. inl (sym (same_bit v ne) ∙ h), λ h. elim h [ inl o ↦ same_bit v ne ∙ o | inr e ↦ absurd (ne e) ])
+  ]

@@ -34,6 +34,7 @@ pub(crate) fn join_at(set: &mut [u64], from: usize, other: &[u64])
     requires room { from + length other.now ≤ length set.old }
     ensures len { length set.new ≡ length set.old }
     ensures only { (v : ℕ) → Has set.new v → Has set.old v ⊎ ((64 * from ≤ v) × Has other.now (v - 64 * from)) }
+    ensures kept { (v : ℕ) → Has set.old v → Has set.new v }
 {
     for at in 0..other.len() {
         set[from + at] |= other[at];
@@ -50,4 +51,30 @@ pub(crate) fn meet_at(set: &mut [u64], from: usize, other: &[u64])
     for at in 0..other.len() {
         set[from + at] &= other[at];
     }
+}
+
+/// Takes the values of the other, counted from the word on.
+pub(crate) fn remove_at(set: &mut [u64], from: usize, other: &[u64])
+    requires room { from + length other.now ≤ length set.old }
+    ensures len { length set.new ≡ length set.old }
+    ensures kept { (v : ℕ) → Has set.old v → Has set.new v ⊎ ((64 * from ≤ v) × Has other.now (v - 64 * from)) }
+{
+    for at in 0..other.len() {
+        set[from + at] ^= set[from + at] & other[at];
+    }
+}
+
+/// Whether of the values counted from the word on, as many as the other has words for, the other has all that the set has.
+pub(crate) fn is_within_at(set: &[u64], from: usize, other: &[u64]) -> bool
+    ensures { IsTrue result → (v : ℕ) → v < 64 * length other.now → Has set.now (64 * from + v) → Has other.now v }
+{
+    if set.len() < from || set.len() - from < other.len() {
+        return false;
+    }
+    for at in 0..other.len() {
+        if set[from + at] & other[at] != set[from + at] {
+            return false;
+        }
+    }
+    true
 }
