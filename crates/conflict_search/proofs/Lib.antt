@@ -7,3 +7,5 @@ mod Each
 mod Boarding
 mod Linking
 mod Words
+mod Learning
+mod Stepping

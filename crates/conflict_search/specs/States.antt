@@ -6,8 +6,8 @@ use Rattle.conflict_search.specs.Boards.{IsBoard}
 use Rattle.conflict_search.specs.Stands.{members_in, wanted_in}
 use Rattle.conflict_search.specs.Terms.{AreNogoods, IsNogoodRow, IsSound, AreOthersWithin, GoesOn}
 use Rattle.conflict_search.specs.declared.library.Library.{Library}
-use Rattle.conflict_search.specs.declared.learning.Learned.{Learned}
-use Rattle.conflict_search.specs.declared.learning.Learned.TheVariants.{Nogood, NoneLeft}
+use Rattle.conflict_search.specs.declared.conflicts.Learned.{Learned}
+use Rattle.conflict_search.specs.declared.conflicts.Learned.TheVariants.{Nogood, NoneLeft}
 use Rattle.conflict_search.specs.declared.spread.Heard.{Heard}
 use Rattle.conflict_search.specs.declared.spread.Heard.TheVariants.{Conflict}
 use Rattle.conflict_search.specs.declared.spread.Says.{Says}

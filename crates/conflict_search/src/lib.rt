@@ -10,12 +10,12 @@
 
 mod board;
 mod budget;
+mod conflicts;
 mod cycles;
 mod demands;
 mod domains;
 mod drafts;
 mod facts;
-mod learning;
 mod library;
 mod names;
 mod nogoods;

@@ -11,7 +11,7 @@ ghost use Rattle.conflict_search.specs.States.{IsRooted, IsReady, IsSearchState}
 use crate::board::Board;
 use crate::budget::{Stop, spend};
 use crate::demands::Demand;
-use crate::learning::Learned;
+use crate::conflicts::Learned;
 use crate::library::Library;
 use crate::state::State;
 use nuc_base::NoMemory;

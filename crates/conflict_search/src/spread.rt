@@ -1,8 +1,10 @@
 //! Doing what the nogoods say of the domains.
 
-ghost use Rattle.std.specs.Prelude.{◌≡◌, ◌≤◌, ◌<◌, ◌^◌, Err, ℕ, length, IfOk, OnOk, MatchOption};
+ghost use Rattle.std.specs.Prelude.{◌≡◌, ◌≤◌, ◌<◌, ◌^◌, Err, ℕ, length, get_or, IfOk, OnOk, MatchOption};
+ghost use Rattle.recipe_reader.specs.Members.{IsRising};
+ghost use Rattle.conflict_search.specs.declared.terms.Term.{Term};
 ghost use Rattle.conflict_search.specs.Stands.{members_in, wanted_in};
-ghost use Rattle.conflict_search.specs.Terms.{AreNames, IsNogoodRow};
+ghost use Rattle.conflict_search.specs.Terms.{AreNames, IsNogoodRow, IsWithin};
 ghost use Rattle.conflict_search.specs.States.{IsSearchState, IsRooted, IsSaid, IsHeard};
 
 use crate::budget::{Stop, spend};
@@ -34,33 +36,39 @@ pub(crate) enum Heard {
     Conflict(Vec<u64>),
 }
 
-/// The term of which the row has more than its set, where it is the only one; none where two or more are so.
+/// The first term from that place on of which the row has more than its set; behind the last where there is none.
+fn first_unmet(row: &[u64], terms: &[Term], from: usize) -> usize
+    ensures within { result ≤ length terms.now }
+    ensures met { (k : ℕ) (t : Term) → from ≤ k → k < result → IsWithin row.now (get_or terms.now k t) }
+{
+    for at in from..terms.len() {
+        if !is_within(row, &terms[at]) {
+            return at;
+        }
+    }
+    terms.len()
+}
+
+/// What the nogood of these terms says of the row.
 fn open_term(row: &[u64], terms: &[Term]) -> Says
     ensures { IsSaid row.now terms.now result }
 {
-    let mut open = None;
-    for (at, term) in terms.iter().enumerate() {
-        if !is_within(row, term) {
-            if open.is_some() {
-                return Says::Nothing;
-            }
-            open = Some(at);
-        }
+    let at = first_unmet(row, terms, 0);
+    if at >= terms.len() {
+        return Says::Conflict;
     }
-    match open {
-        None => Says::Conflict,
-        Some(at) => {
-            if is_apart(row, &terms[at]) {
-                return Says::Nothing;
-            }
-            Says::Take(at)
-        }
+    if first_unmet(row, terms, at + 1) < terms.len() || is_apart(row, &terms[at]) {
+        return Says::Nothing;
     }
+    Says::Take(at)
 }
 
 impl<'a> Library<'a> {
     /// Does what the nogood with that number says.
     fn heed(&self, state: &mut State<'a>, nogood: usize) -> Result<Heard, NoMemory>
+        requires count { length self.now.candidates.now < 2 ^ 32 }
+        requires rising { IsRising (members_in self.now) }
+        requires names { AreNames (members_in self.now) self.now.names.now }
         requires state { IsSearchState self.now state.old }
         ensures places { state.new.board.places.items ≡ state.old.board.places.items }
         ensures heard { IfOk result (IsHeard self.now state.new) }
@@ -84,6 +92,9 @@ impl<'a> Library<'a> {
         state: &mut State<'a>,
         left: &mut u64,
     ) -> Result<Option<Vec<u64>>, Stop>
+        requires count { length self.now.candidates.now < 2 ^ 32 }
+        requires rising { IsRising (members_in self.now) }
+        requires names { AreNames (members_in self.now) self.now.names.now }
         requires state { IsSearchState self.now state.old }
         ensures places { state.new.board.places.items ≡ state.old.board.places.items }
         ensures found { IfOk result (λ found. MatchOption found
@@ -101,7 +112,7 @@ impl<'a> Library<'a> {
                 Heard::Taken => quiet = 0,
                 Heard::Conflict(draft) => return Ok(Some(draft)),
             }
-            nogood += 1;
+            nogood = nogood.saturating_add(1);
             if nogood >= state.nogoods.list.len() {
                 nogood = 0;
             }

@@ -80,6 +80,9 @@ impl Trail {
         terms: &[Term],
         reason: Reason,
     ) -> Result<(), NoMemory>
+        requires count { length library.now.candidates.now < 2 ^ 32 }
+        requires rising { IsRising (members_in library.now) }
+        requires names { AreNames (members_in library.now) library.now.names.now }
         requires row { length self.old.domains.items ≡ length library.now.candidates.now }
         requires nogood { IsNogood (members_in library.now) (wanted_in library.now) terms.now }
         requires at { reason.term < length terms.now }

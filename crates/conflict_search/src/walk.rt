@@ -56,6 +56,7 @@ impl<'a> Library<'a> {
     /// The draft of places that cannot stand together.
     fn draft_against(&self, full: &[u64], places: &[u32]) -> Result<Vec<u64>, NoMemory>
         requires count { length self.now.candidates.now < 2 ^ 32 }
+        requires rising { IsRising (members_in self.now) }
         requires names { AreNames (members_in self.now) self.now.names.now }
         requires full { length full.now ≡ length self.now.candidates.now }
         requires inside { All (λ p. p < length self.now.candidates.now) places.now }
@@ -105,6 +106,7 @@ impl<'a> Library<'a> {
         left: &mut u64,
     ) -> Result<Option<Vec<u64>>, Stop>
         requires count { length self.now.candidates.now < 2 ^ 32 }
+        requires rising { IsRising (members_in self.now) }
         requires names { AreNames (members_in self.now) self.now.names.now }
         requires state { IsSearchState self.now state.old }
         requires place { Contains state.old.board.places.items place }
@@ -153,6 +155,7 @@ impl<'a> Library<'a> {
     /// The draft of what stands against a whole walk, which is kept as a nogood too. Where nothing does the walk is the best.
     fn check(&self, state: &mut State<'a>, left: &mut u64) -> Result<Option<Vec<u64>>, Stop>
         requires count { length self.now.candidates.now < 2 ^ 32 }
+        requires rising { IsRising (members_in self.now) }
         requires names { AreNames (members_in self.now) self.now.names.now }
         requires state { IsSearchState self.now state.old }
         requires whole { IsComplete (members_in self.now) (wanted_in self.now) state.old.board.places.items }

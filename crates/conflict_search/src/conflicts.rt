@@ -1,7 +1,7 @@
 //! What is learned from a conflict.
 
 ghost use Rattle.std.specs.Prelude.{◌≡◌, ◌≤◌, ◌<◌, ◌^◌, [], ℕ, Err, length, IfOk, OnOk};
-ghost use Rattle.recipe_reader.specs.Searches.{HasNone};
+ghost use Rattle.recipe_reader.specs.Members.{IsRising};
 ghost use Rattle.conflict_search.specs.Stands.{members_in, wanted_in};
 ghost use Rattle.conflict_search.specs.Terms.{AreNames, IsNogood, AreNogoods, IsNogoodRow};
 ghost use Rattle.conflict_search.specs.States.{IsRooted, IsReady, IsLearned};
@@ -47,6 +47,9 @@ fn size_of(terms: &[Term]) -> u64 {
 impl<'a> Library<'a> {
     /// Joins the draft with the event's reason. Answers whether it has one.
     fn join_reason(&self, draft: &mut [u64], nogoods: &Nogoods, event: &Event) -> bool
+        requires count { length self.now.candidates.now < 2 ^ 32 }
+        requires rising { IsRising (members_in self.now) }
+        requires names { AreNames (members_in self.now) self.now.names.now }
         requires draft { IsNogoodRow (members_in self.now) (wanted_in self.now) draft.old }
         requires nogoods { AreNogoods (members_in self.now) (wanted_in self.now) nogoods.now }
         ensures { IsNogoodRow (members_in self.now) (wanted_in self.now) draft.new }
@@ -67,6 +70,9 @@ impl<'a> Library<'a> {
     /// Joins the draft, all of whose terms are met, with the reasons of the events that met them, from the latest back to the
     /// last decision.
     fn join_reasons(&self, draft: &mut [u64], nogoods: &Nogoods, events: &[Event])
+        requires count { length self.now.candidates.now < 2 ^ 32 }
+        requires rising { IsRising (members_in self.now) }
+        requires names { AreNames (members_in self.now) self.now.names.now }
         requires draft { IsNogoodRow (members_in self.now) (wanted_in self.now) draft.old }
         requires nogoods { AreNogoods (members_in self.now) (wanted_in self.now) nogoods.now }
         ensures { IsNogoodRow (members_in self.now) (wanted_in self.now) draft.new }
@@ -109,6 +115,7 @@ impl<'a> Library<'a> {
         left: &mut u64,
     ) -> Result<Learned, Stop>
         requires count { length self.now.candidates.now < 2 ^ 32 }
+        requires rising { IsRising (members_in self.now) }
         requires names { AreNames (members_in self.now) self.now.names.now }
         requires rooted { IsRooted self.now state.old }
         requires draft { IsNogoodRow (members_in self.now) (wanted_in self.now) draft.items }
