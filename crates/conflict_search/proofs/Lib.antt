@@ -7,5 +7,7 @@ mod Each
 mod Boarding
 mod Linking
 mod Words
+mod Naming
 mod Learning
+mod Shrinking
 mod Stepping

@@ -116,6 +116,30 @@ joined_at_kept from n old other new w v h =
       ]
     ]
 
+pub met_at_kept : (from n : ℕ) (old other new : List ℕ) → n ≤ length other → AreWordsAt bit_and from n old other new → (v : ℕ) → Has old v →
+    Has new v ⊎ ((64 * from ≤ v) × (v - 64 * from < 64 * length other) × (Has other (v - 64 * from) → ⊥))
+met_at_kept from n old other new all w v h =
+    let bit = has_in old v (v / 64) (v % 64) refl refl h in
+    elim (cases_lt (v / 64) from) [
+      | inl lt ↦ inl (has_from new v (v / 64) (v % 64) refl refl (ap (λ x. bit_at x (v % 64)) (w.before (v / 64) lt) ∙ bit))
+      | inr ge ↦ elim (cases_lt (v / 64) (from + n)) [
+        | inr far ↦ inl (has_from new v (v / 64) (v % 64) refl refl (ap (λ x. bit_at x (v % 64)) (w.behind (v / 64) (omega (arith, far))) ∙ bit))
+        | inl lt ↦ (let j : ℕ = v / 64 - from in
+            let e : v / 64 ≡ from + j = omega (arith, ge) in
+            let small : j < n = omega (arith, lt, ge) in
+            let low : 64 * from ≤ v = omega (arith, ge) in
+            let below : v - 64 * from < 64 * length other = omega (arith, lt, all) in
+            let place : (v - 64 * from) / 64 ≡ j = omega (arith, low) in
+            let rest : (v - 64 * from) % 64 ≡ v % 64 = omega (arith, low) in
+            let bit' : bit_at (get_or old (from + j) 0) (v % 64) ≡ 1 = has_in old v (from + j) (v % 64) e refl h in
+            let both = bit_at_and (get_or old (from + j) 0) (get_or other j 0) (v % 64) in
+            elim (cases_eq (bit_at (get_or other j 0) (v % 64)) 1) [
+              | inl o ↦ inl (has_from new v (from + j) (v % 64) e refl (ap (λ x. bit_at x (v % 64)) (w.done j small) ∙ omega (arith, both, bit', o)))
+              | inr ne ↦ inr (low, below, λ o. ne (has_in other (v - 64 * from) j (v % 64) place rest o))
+            ])
+      ]
+    ]
+
 pub removed_at : (from n : ℕ) (old other new : List ℕ) → AreWordsAt less_word from n old other new → (v : ℕ) → Has old v →
     Has new v ⊎ ((64 * from ≤ v) × Has other (v - 64 * from))
 removed_at from n old other new w v h =

@@ -24,6 +24,7 @@ impl<'a> Library<'a> {
     /// Joins the draft with a nogood at one of its terms: of that name the values of the one or the other, of all other
     /// names those of both. Two nogoods joined at any name give a nogood.
     pub(crate) fn join(&self, row: &mut [u64], terms: &[Term], at: usize)
+        requires rising { IsRising (members_in self.now) }
         requires draft { IsNogoodRow (members_in self.now) (wanted_in self.now) row.old }
         requires nogood { IsNogood (members_in self.now) (wanted_in self.now) terms.now }
         requires at { at < length terms.now }

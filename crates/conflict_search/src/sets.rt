@@ -4,7 +4,7 @@ ghost use Rattle.std.specs.Prelude.{◌≡◌, ◌⊎◌, ◌↔◌, ℕ, ◌≤
 ghost use Rattle.conflict_search.specs.Terms.{Has};
 
 /// The word at that place, or no bits.
-fn word(set: &[u64], at: usize) -> u64
+pub(crate) fn word(set: &[u64], at: usize) -> u64
     ensures { result ≡ get_or set.now at 0 }
 {
     match set.get(at) {
@@ -47,6 +47,8 @@ pub(crate) fn meet_at(set: &mut [u64], from: usize, other: &[u64])
     ensures len { length set.new ≡ length set.old }
     ensures only { (v : ℕ) → Has set.new v → Has set.old v }
     ensures met { (v : ℕ) → v < 64 * length other.now → Has set.new (64 * from + v) → Has other.now v }
+    ensures kept { (v : ℕ) → Has set.old v →
+        Has set.new v ⊎ ((64 * from ≤ v) × (v - 64 * from < 64 * length other.now) × (Has other.now (v - 64 * from) → ⊥)) }
 {
     for at in 0..other.len() {
         set[from + at] &= other[at];
