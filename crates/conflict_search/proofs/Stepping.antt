@@ -21,7 +21,7 @@ use Rattle.conflict_search.specs.declared.board.Board.{Board}
 use Rattle.conflict_search.specs.declared.library.Library.{Library}
 use Rattle.conflict_search.specs.declared.state.State.{State}
 use Rattle.conflict_search.specs.declared.trail.Trail.{Trail}
-use Rattle.conflict_search.proofs.Learning.{steps_soundly, goes_on_from_start, goes_on_by_greatest}
+use Rattle.conflict_search.proofs.Shrinking.{steps_soundly, goes_on_from_start, goes_on_by_greatest}
 use Rattle.conflict_search.proofs.Prefixes.{prefix_start, prefix_push}
 use Rattle.conflict_search.proofs.Trying.{in_range_start, in_range_push}
 use Rattle.conflict_search.proofs.Boarding.{board_start}

@@ -101,6 +101,7 @@ impl Trail {
     /// Leaves the place alone of its name: it was decided.
     pub(crate) fn decide(&mut self, library: &Library, place: u32) -> Result<(), NoMemory>
         requires count { length library.now.candidates.now < 2 ^ 32 }
+        requires rising { IsRising (members_in library.now) }
         requires row { length self.old.domains.items ≡ length library.now.candidates.now }
         requires names { AreNames (members_in library.now) library.now.names.now }
         requires place { place < length library.now.candidates.now }

@@ -6,7 +6,7 @@ use Rattle.conflict_search.specs.Conflicts.{CannotStand}
 use Rattle.conflict_search.specs.Stands.{members_in, wanted_in}
 use Rattle.conflict_search.specs.Terms.{IsLeft, IsNogoodRow}
 use Rattle.conflict_search.specs.States.{IsRooted, IsSearchState}
-use Rattle.conflict_search.proofs.Learning.{none_left}
+use Rattle.conflict_search.proofs.Shrinking.{none_left}
 use Rattle.conflict_search.proofs.library.Library.advance.Goals as goal
 
 pub draft_against-requires-clause-conflict : goal.draft_against-requires-clause-conflict
