@@ -1,6 +1,5 @@
--- A state of the search after a step, at the start of an attempt, and what stands against its walk.
+-- What stands against a walk stands at places of the candidates; and the state of the search after a step.
 use Rattle.std.proofs.Common.{◌≡◌, ◌+◌, ◌<◌, ℕ, List, [], ◌∷◌, ◌++◌, length, get_or, Option, Some, None, refl, sym, ap, ◌∙◌, subst, inl, inr}
-use Rattle.std.specs.Prelude.{slice_index_or}
 use Rattle.std.specs.List.{All, Contains}
 use Rattle.std.proofs.lemmas.List.{length-map}
 use Rattle.std.proofs.lemmas.List.Elements.{All-contains, Contains-append_left, Contains-push_cases}
@@ -11,20 +10,16 @@ use Rattle.recipe_reader.specs.Sets.{name_of}
 use Rattle.recipe_reader.proofs.Searching.{within_from_name}
 use Rattle.conflict_search.specs.Conflicts.{IsConflict, IsConflictWith, IsPrefix, AreInRange, IsInRangeWith}
 use Rattle.conflict_search.specs.Numbers.{IsNumberAt, IsNextNumber}
-use Rattle.conflict_search.specs.Claims.{claims_from, AreDemands}
-use Rattle.conflict_search.specs.Boards.{IsBoard, IsIndexed}
+use Rattle.conflict_search.specs.Boards.{IsBoard}
 use Rattle.conflict_search.specs.Stands.{members_in, wanted_in}
 use Rattle.conflict_search.specs.Terms.{IsSound, GoesOn, IsGreatestLeft}
-use Rattle.conflict_search.specs.States.{IsRooted, IsReady, IsSearchState}
-use Rattle.conflict_search.specs.declared.demands.Demand.{Demand}
+use Rattle.conflict_search.specs.States.{IsSearchState}
 use Rattle.conflict_search.specs.declared.board.Board.{Board}
 use Rattle.conflict_search.specs.declared.library.Library.{Library}
 use Rattle.conflict_search.specs.declared.state.State.{State}
-use Rattle.conflict_search.specs.declared.trail.Trail.{Trail}
-use Rattle.conflict_search.proofs.Shrinking.{steps_soundly, goes_on_from_start, goes_on_by_greatest}
-use Rattle.conflict_search.proofs.Prefixes.{prefix_start, prefix_push}
-use Rattle.conflict_search.proofs.Trying.{in_range_start, in_range_push}
-use Rattle.conflict_search.proofs.Boarding.{board_start}
+use Rattle.conflict_search.proofs.Shrinking.{steps_soundly, goes_on_by_greatest}
+use Rattle.conflict_search.proofs.Prefixes.{prefix_push}
+use Rattle.conflict_search.proofs.Trying.{in_range_push}
 
 module _ (library : Library) where
   abbrev ms : List Member
@@ -83,71 +78,3 @@ module _ (library : Library) where
         on = subst (GoesOn ms wanted) (sym places)
             (goes_on_by_greatest ms wanted taken old.trail.domains.items next.name place number up h.sound h.prefix h.on next.next next.is named greatest);
       }
-
-  -- the domains shrank, and are sound still
-  pub shrunk : (old : State) (trail : Trail) → IsSearchState library old → trail.root.items ≡ old.trail.root.items →
-      length trail.domains.items ≡ length old.trail.domains.items → IsSound ms wanted old.board.places.items trail.domains.items →
-      IsSearchState library (record { board = old.board; nogoods = old.nogoods; trail = trail; full = old.full; room = old.room })
-  shrunk old trail h root len sound = record {
-    rooted = record {
-      nogoods = h.rooted.nogoods;
-      root = subst (IsSound ms wanted []) (sym root) h.rooted.root;
-      root_count = ap length root ∙ h.rooted.root_count;
-      full_count = h.rooted.full_count;
-    };
-    sound = sound;
-    domains_count = len ∙ h.domains_count;
-    board = h.board;
-    in_range = h.in_range;
-    prefix = h.prefix;
-    on = h.on;
-  }
-
-  -- before any step what is left is kept as the root
-  pub rooted_anew : (old : State) (trail : Trail) → IsSearchState library old → old.board.places.items ≡ [] →
-      trail.domains.items ≡ old.trail.domains.items → trail.root.items ≡ old.trail.domains.items →
-      IsSearchState library (record { board = old.board; nogoods = old.nogoods; trail = trail; full = old.full; room = old.room })
-  rooted_anew old trail h none domains root = record {
-    rooted = record {
-      nogoods = h.rooted.nogoods;
-      root = subst (λ l. IsSound ms wanted l trail.root.items) none (subst (IsSound ms wanted old.board.places.items) (sym root) h.sound);
-      root_count = ap length root ∙ h.domains_count;
-      full_count = h.rooted.full_count;
-    };
-    sound = subst (IsSound ms wanted old.board.places.items) (sym domains) h.sound;
-    domains_count = ap length domains ∙ h.domains_count;
-    board = h.board;
-    in_range = h.in_range;
-    prefix = h.prefix;
-    on = h.on;
-  }
-
-  -- all decisions are taken back
-  pub taken_back : (old : State) (trail : Trail) → IsRooted library old → trail.domains.items ≡ old.trail.root.items →
-      trail.root.items ≡ old.trail.root.items →
-      IsReady library (record { board = old.board; nogoods = old.nogoods; trail = trail; full = old.full; room = old.room })
-  taken_back old trail h domains root = record {
-    rooted = record {
-      nogoods = h.nogoods;
-      root = subst (IsSound ms wanted []) (sym root) h.root;
-      root_count = ap length root ∙ h.root_count;
-      full_count = h.full_count;
-    };
-    sound = subst (IsSound ms wanted []) (sym domains) h.root;
-    domains_count = ap length domains ∙ h.root_count;
-  }
-
-  -- nothing is decided, and what is wanted is asked for
-  pub begun : (old : State) (board : Board) (asked : List Demand) → IsReady library old → AreDemands ms (claims_from None wanted) asked →
-      board.places.items ≡ [] → board.asked.items ≡ asked → IsIndexed (length ms) board →
-      ((k : ℕ) → slice_index_or board.chosen.items k None ≡ None) →
-      IsSearchState library (record { board = board; nogoods = old.nogoods; trail = old.trail; full = old.full; room = old.room })
-  begun old board asked h demands places is indexed none = record {
-    rooted = record { nogoods = h.rooted.nogoods; root = h.rooted.root; root_count = h.rooted.root_count; full_count = h.rooted.full_count };
-    sound = subst (λ l. IsSound ms wanted l old.trail.domains.items) (sym places) h.sound;
-    domains_count = h.domains_count;
-    board = board_start ms wanted board asked places is demands indexed none;
-    in_range = subst (AreInRange ms wanted) (sym places) (in_range_start ms wanted);
-    prefix = subst (IsPrefix ms wanted) (sym places) (prefix_start ms wanted);
-    on = subst (GoesOn ms wanted) (sym places) (goes_on_from_start ms wanted);
-  }
