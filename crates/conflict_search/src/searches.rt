@@ -108,12 +108,13 @@ pub fn search(
     ensures none { result ≡ Err SearchFault.NoVersion → (s : List ℕ) → IsValid (members candidates.now) (asked wanted.now) s → ⊥ }
     ensures tries { tries.old ≤ tries.new }
 {
-    let Ok(names) = Names::new(alloc, candidates.list().as_slice()) else {
+    let members = candidates.list().as_slice();
+    let Ok(names) = Names::new(alloc, members) else {
         return Err(SearchFault::NoMemory);
     };
     let library = Library {
         alloc,
-        candidates: candidates.list().as_slice(),
+        candidates: members,
         wanted: wanted.as_slice(),
         names: &names,
     };
