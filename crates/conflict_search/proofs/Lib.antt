@@ -12,3 +12,4 @@ mod Gathering
 mod Learning
 mod Drafting
 mod Shrinking
+mod Stepping

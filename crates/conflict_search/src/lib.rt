@@ -10,6 +10,7 @@
 
 mod board;
 mod budget;
+mod conflicts;
 mod cycles;
 mod demands;
 mod domains;
@@ -20,8 +21,10 @@ mod names;
 mod nogoods;
 mod numbers;
 mod places;
+mod runs;
 mod searches;
 mod sets;
+mod spread;
 mod state;
 mod terms;
 mod trail;

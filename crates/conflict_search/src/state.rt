@@ -4,12 +4,13 @@ use crate::board::Board;
 use crate::nogoods::Nogoods;
 use crate::trail::Trail;
 
-/// The walk, what is known, and what is left of each name. `full` has all values of all names; `left` is how many steps
-/// the search may still take, and `room` how many bytes more what it learns.
+/// The walk, what is known, and what is left of each name. `full` has all values of all names; `room` is how many bytes more
+/// what is learned may take.
 #[derive(Drop)]
 pub(crate) struct State<'a> {
     pub(crate) board: Board<'a>,
     pub(crate) nogoods: Nogoods,
     pub(crate) trail: Trail,
     pub(crate) full: Vec<u64>,
+    pub(crate) room: u64,
 }
