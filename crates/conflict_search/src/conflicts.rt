@@ -125,7 +125,7 @@ impl<'a> Library<'a> {
     {
         let events = state.trail.events.as_slice();
         self.join_reasons(draft.as_mut_slice(), &state.nogoods, events);
-        let terms = self.learned(draft.as_slice(), state.full.as_slice())?;
+        let terms = self.learned(draft.as_slice())?;
         if terms.is_empty() {
             return Ok(Learned::NoneLeft);
         }
