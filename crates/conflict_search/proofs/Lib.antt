@@ -13,3 +13,4 @@ mod Learning
 mod Drafting
 mod Shrinking
 mod Stepping
+mod Demanding
