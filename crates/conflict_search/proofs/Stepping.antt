@@ -60,7 +60,7 @@ module _ (library : Library) where
       IsNextNumber ms wanted old.board.places.items number → IsNumberAt ms place number →
       IsGreatestLeft ms old.trail.domains.items number place → IsInRangeWith ms wanted old.board.places.items place →
       IsBoard ms wanted board → board.places.items ≡ old.board.places.items ++ place ∷ [] →
-      IsSearchState library (record { board = board; nogoods = old.nogoods; trail = old.trail; full = old.full; room = old.room })
+      IsSearchState library (record { board = board; nogoods = old.nogoods; trail = old.trail; watches = old.watches; full = old.full; room = old.room })
   stepped old board number place up h next at greatest fits is places =
       let taken = old.board.places.items in
       let a = at.is in

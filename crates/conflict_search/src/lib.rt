@@ -30,6 +30,7 @@ mod terms;
 mod trail;
 mod trial;
 mod walk;
+mod watches;
 
 pub use recipe_reader::Wanted;
 pub use searches::{SearchFault, search};

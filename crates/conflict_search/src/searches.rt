@@ -18,6 +18,7 @@ use crate::names::Names;
 use crate::nogoods::Nogoods;
 use crate::state::State;
 use crate::trail::Trail;
+use crate::watches::Watches;
 use nuc_base::{List, NoMemory};
 use recipe_reader::{Candidates, Wanted};
 use std::alloc::Global;
@@ -57,12 +58,15 @@ impl<'a> Library<'a> {
             root: self.full_row()?,
             events: Vec::new(self.alloc),
             root_events: 0,
+            spread: 0,
             level: 0,
         };
+        let watches = Watches::new(self.alloc, self.candidates.len())?;
         Ok(State {
             board,
             nogoods,
             trail,
+            watches,
             full,
             room: MOST_ROOM,
         })

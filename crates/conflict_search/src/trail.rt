@@ -30,13 +30,15 @@ pub(crate) struct Reason {
     pub(crate) term: usize,
 }
 
-/// The domains, those before any decision, and the events since the start, of which the first so many came before any decision.
+/// The domains, those before any decision, and the events since the start. The first `root_events` of them came before any
+/// decision, and of the first `spread` all that they lead to was done.
 #[derive(Drop)]
 pub(crate) struct Trail {
     pub(crate) domains: Vec<u64>,
     pub(crate) root: Vec<u64>,
     pub(crate) events: Vec<Event>,
     pub(crate) root_events: usize,
+    pub(crate) spread: usize,
     pub(crate) level: u32,
 }
 
@@ -50,7 +52,30 @@ fn words_at(alloc: Global, row: &[u64], from: usize, count: usize) -> Result<Vec
     Ok(words)
 }
 
+/// Values that went from the name with that first place.
+#[derive(Drop)]
+pub(crate) struct Gone {
+    pub(crate) from: usize,
+    pub(crate) set: Vec<u64>,
+}
+
 impl Trail {
+    /// What went from the name of the event since it began.
+    pub(crate) fn gone(&self, alloc: Global, event: usize) -> Result<Gone, NoMemory> {
+        let mut set = Vec::new(alloc);
+        let Some(event) = self.events.get(event) else {
+            return Ok(Gone { from: 0, set });
+        };
+        for (at, word) in event.before.iter().enumerate() {
+            let here = self.domains.get(event.from.saturating_add(at)).copied();
+            set.push(*word ^ (*word & here.unwrap_or(0)))?;
+        }
+        Ok(Gone {
+            from: event.from,
+            set,
+        })
+    }
+
     /// Notes that values go from the name with that first place, which has so many words.
     fn note(
         &mut self,
@@ -137,6 +162,7 @@ impl Trail {
     {
         self.domains = Vec::from_slice(alloc, self.root.as_slice())?;
         self.events.truncate(self.root_events);
+        self.spread = self.spread.min(self.root_events);
         self.level = 0;
         Ok(())
     }
