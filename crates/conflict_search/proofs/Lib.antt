@@ -11,5 +11,6 @@ mod Naming
 mod Gathering
 mod Learning
 mod Drafting
+mod Ending
 mod Shrinking
 mod Stepping

@@ -6,3 +6,4 @@ pub mod Edges
 pub mod Stands
 pub mod Terms
 pub mod States
+pub mod Endless
