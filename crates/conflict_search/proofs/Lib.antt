@@ -14,3 +14,4 @@ mod Drafting
 mod Ending
 mod Shrinking
 mod Stepping
+mod Demanding

@@ -7,3 +7,4 @@ pub mod Stands
 pub mod Terms
 pub mod States
 pub mod Endless
+pub mod Facts
