@@ -11,6 +11,7 @@ mod Naming
 mod Gathering
 mod Learning
 mod Drafting
+mod Ending
 mod Shrinking
 mod Stepping
 mod Demanding

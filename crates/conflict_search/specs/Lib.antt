@@ -6,4 +6,5 @@ pub mod Edges
 pub mod Stands
 pub mod Terms
 pub mod States
+pub mod Endless
 pub mod Facts

@@ -15,6 +15,7 @@ mod cycles;
 mod demands;
 mod domains;
 mod drafts;
+mod endless;
 mod facts;
 mod library;
 mod names;

@@ -43,7 +43,7 @@ impl<'a> Library<'a> {
     }
 
     /// Adds the place to values of its name.
-    fn add_place(&self, term: &mut Term, place: u32)
+    pub(crate) fn add_place(&self, term: &mut Term, place: u32)
         requires term { IsTerm (members_in self.now) term.old }
         requires named { (n : List ℕ) → IsFirstPlace (members_in self.now) n term.old.from → name_of (members_in self.now) place ≡ Some n }
         ensures term { IsTerm (members_in self.now) term.new }
@@ -52,6 +52,16 @@ impl<'a> Library<'a> {
     {
         let value = place as usize + 1 - term.from;
         add(&mut term.set, value);
+    }
+
+    /// Adds "absent" to values of a name.
+    pub(crate) fn add_absent(&self, term: &mut Term)
+        requires term { IsTerm (members_in self.now) term.old }
+        ensures term { IsTerm (members_in self.now) term.new }
+        ensures from { term.new.from ≡ term.old.from }
+        ensures added { (v : ℕ) → Has term.new.set.items v ↔ Has term.old.set.items v ⊎ (v ≡ 0) }
+    {
+        add(&mut term.set, 0);
     }
 
     /// The place alone.
@@ -82,7 +92,7 @@ impl<'a> Library<'a> {
             × (IsMetIn (members_in self.now) range.now q → ⊥))) }
     {
         let mut term = self.no_value(number)?;
-        add(&mut term.set, 0);
+        self.add_absent(&mut term);
         for place in self.names.first(number)..number + 1 {
             if !range.holds(version_at(self.candidates, place)) {
                 self.add_place(&mut term, place);

@@ -168,7 +168,7 @@ impl<'a> Library<'a> {
         let Some(cycle) = self.cycle_among(&state.board)? else {
             return Ok(None);
         };
-        let terms = self.nogood_of(cycle.as_slice())?;
+        let terms = self.nogood_of_cycle(cycle.as_slice())?;
         let draft = self.draft_of(state.full.as_slice(), terms.as_slice())?;
         self.keep(state, terms, left)?;
         Ok(Some(draft))

@@ -19,8 +19,8 @@ returns-in_default-clause-found c =
     c.in_ok-cycle.ensures in
     goes.on taken (best_here ms wanted taken good c.requires.whole)
 
-pub nogood_of-requires-clause-places : goal.nogood_of-requires-clause-places
-nogood_of-requires-clause-places c =
+pub nogood_of_cycle-requires-clause-places : goal.nogood_of_cycle-requires-clause-places
+nogood_of_cycle-requires-clause-places c =
     let ms = members_in c.args.self.now in
     let wanted = wanted_in c.args.self.now in
     let taken = c.args.state.now.board.places.items in
