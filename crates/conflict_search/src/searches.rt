@@ -92,16 +92,16 @@ impl<'a> Library<'a> {
 }
 
 /// The preferred valid set of the candidates for what is wanted, as places in their list, rising. `NoVersion` comes exactly
-/// where no set is valid, and `NoMemory` where memory was refused.
+/// where no set is valid. `NoMemory` comes where memory was refused, and where the search used up what it allows itself:
+/// 16,777,216 steps, or 4 MiB of learned nogoods. The same input gives the same answer everywhere: steps are counted, and
+/// no clock is asked.
 ///
-/// Valid and preferred sets are those of `resolver`. `tries` rises by one for each candidate that is looked at, and stays
+/// Valid and preferred sets are those of `resolver`. `tries` rises by one for each name that the walk comes to, and stays
 /// at its type's end.
 ///
-/// Where no version is refused, the time is that of what is wanted and of the dependencies of the chosen candidates, times
-/// the logarithm of the candidates. A version that is refused is blamed on the place that was decided first of those that
-/// refuse it. Where all versions of a name fail, the places that are blamed for them and the first that asks for the name
-/// cannot stand together: the search goes back to the latest of them, and keeps the set. Cycles are looked for where no
-/// name is left.
+/// It begins with the facts of all names that can be reached from what is wanted, so its time is at least that of their
+/// dependencies, times the logarithm of the candidates. Each conflict makes it start again from the root. Cycles are looked
+/// for where no name is left. It has no recursion.
 pub fn search(
     alloc: Global,
     candidates: &Candidates,
