@@ -117,6 +117,17 @@ joined_at_kept from n old other new w v h =
 pub has_below : (set : List ℕ) (v : ℕ) → Has set v → v < 64 * length set
 has_below set v h = elim (cases_lt v (64 * length set)) [ inl lt ↦ lt | inr ge ↦ absurd (past set v (omega (arith, ge)) h) ]
 
+pub joined_at_given : (from n : ℕ) (old other new : List ℕ) → length other ≤ n → AreWordsAt bit_or from n old other new → (v : ℕ) → Has other v → Has new (64 * from + v)
+joined_at_given from n old other new all w v h =
+    let below = has_below other v h in
+    let small : v / 64 < n = omega (arith, below, all) in
+    let e : (64 * from + v) / 64 ≡ from + v / 64 = omega arith in
+    let f : (64 * from + v) % 64 ≡ v % 64 = omega arith in
+    let bit = has_in other v (v / 64) (v % 64) refl refl h in
+    let or = bit_at_or (get_or old (from + v / 64) 0) (get_or other (v / 64) 0) (v % 64) in
+    let top = bit_at-lt (get_or old (from + v / 64) 0) (v % 64) in
+    has_from new (64 * from + v) (from + v / 64) (v % 64) e f (ap (λ x. bit_at x (v % 64)) (w.done (v / 64) small) ∙ omega (arith, or, bit, top))
+
 pub copied : (from : ℕ) (set row : List ℕ) → ((j : ℕ) → j < length set → get_or set j 0 ≡ get_or row (from + j) 0) → (v : ℕ) → Has set v → Has row (64 * from + v)
 copied from set row same v h =
     let lt = has_below set v h in

@@ -1,6 +1,6 @@
 //! Drafts of nogoods: of each name a set of values. A name of which all values are in its set takes no part.
 
-ghost use Rattle.std.specs.Prelude.{◌≡◌, ◌<◌, ◌^◌, ◌+◌, ◌-◌, ◌*◌, ℕ, List, Some, length, get_or, IsTrue, IfOk};
+ghost use Rattle.std.specs.Prelude.{◌≡◌, ◌⊎◌, ◌≤◌, ◌<◌, ◌^◌, ◌+◌, ◌-◌, ◌*◌, ℕ, List, Some, length, get_or, IsTrue, IfOk};
 ghost use Rattle.std.specs.List.{All};
 ghost use Rattle.recipe_reader.specs.Members.{IsRising};
 ghost use Rattle.recipe_reader.specs.Sets.{name_of};
@@ -14,6 +14,17 @@ use crate::library::Library;
 use crate::sets::{copy_from, has, join_at, meet_at};
 use crate::terms::Term;
 use nuc_base::NoMemory;
+
+/// Adds the values of the term to those that the row has of its name.
+fn add_values(row: &mut [u64], term: &Term)
+    requires room { term.now.from + length term.now.set.items ≤ length row.old }
+    ensures count { length row.new ≡ length row.old }
+    ensures only { (v : ℕ) → Has row.new v → Has row.old v ⊎ ((64 * term.now.from ≤ v) × Has term.now.set.items (v - 64 * term.now.from)) }
+    ensures kept { (v : ℕ) → Has row.old v → Has row.new v }
+    ensures given { (v : ℕ) → Has term.now.set.items v → Has row.new (64 * term.now.from + v) }
+{
+    join_at(row, term.from, &term.set);
+}
 
 impl<'a> Library<'a> {
     /// The row that says what this nogood says.
@@ -47,8 +58,7 @@ impl<'a> Library<'a> {
         requires at { at < length terms.now }
         ensures { IsNogoodRow (members_in self.now) (wanted_in self.now) row.new }
     {
-        let joined = &terms[at];
-        join_at(row, joined.from, &joined.set);
+        add_values(row, &terms[at]);
         for index in 0..terms.len() {
             if index != at {
                 let term = &terms[index];

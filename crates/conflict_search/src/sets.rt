@@ -50,6 +50,7 @@ pub(crate) fn join_at(set: &mut [u64], from: usize, other: &[u64])
     ensures len { length set.new ≡ length set.old }
     ensures only { (v : ℕ) → Has set.new v → Has set.old v ⊎ ((64 * from ≤ v) × Has other.now (v - 64 * from)) }
     ensures kept { (v : ℕ) → Has set.old v → Has set.new v }
+    ensures given { (v : ℕ) → Has other.now v → Has set.new (64 * from + v) }
 {
     for at in 0..other.len() {
         set[from + at] |= other[at];
