@@ -15,7 +15,6 @@ use Rattle.recipe_reader.specs.Sets.{name_of, needs_of, required_names, IsTaken,
 use Rattle.recipe_reader.specs.declared.candidate.Candidate.{Candidate}
 use Rattle.recipe_reader.proofs.Required.{required_by_wanted, required_by_need}
 use Rattle.recipe_reader.proofs.Searching.{within_from_name}
-use Rattle.conflict_search.specs.Conflicts.{IsReason}
 use Rattle.conflict_search.specs.Numbers.{IsNumber, IsNumberAt, IsNextNumber}
 use Rattle.conflict_search.specs.Claims.{Claim, claims_from, claims_of, demand_need, claim, AreDemands}
 use Rattle.conflict_search.specs.Boards.{IsAsked, IsIndexed, IsChosen, IsBoard}
@@ -116,26 +115,6 @@ board_take ms wanted old new p k ds h next at demands places asked chosen indexe
       chosen = chosen_push ms old.places.items new.places.items old.chosen.items new.chosen.items p k places at free inside h.chosen chosen;
     }
 
-pub board_back : (ms : List Member) (wanted : List Need) (old new : Board) (p k count : ℕ) → IsBoard ms wanted old → old.places.items ≡ new.places.items ++ p
-    ∷ [] → IsNextNumber ms wanted new.places.items k → IsNumberAt ms p k
-    → count ≡ length (needs_of ms p) → new.asked.items ≡ take (length old.asked.items - count) old.asked.items →
-    new.chosen.items ≡ slice_set old.chosen.items k None → IsIndexed (length ms) new → IsBoard ms wanted new
-board_back ms wanted old new p k count h places next at n asked chosen indexed =
-    let index = h.indexed in
-    let known = next.next in
-    let is = at.is in
-    let num = next.is in
-    let inside : k < length old.chosen.items = (let lt = number_within ms at.name k at.is in omega (arith, lt, index.chosen_count)) in
-    let name : at.name ≡ next.name = same_Some at.name next.name (sym is.named ∙ num.named) in
-    let free : IsTaken ms new.places.items at.name → ⊥ = λ t. known.untaken (subst (IsTaken ms new.places.items) name t) in
-    record {
-      inside = all_from_in (λ p. p < length ms) new.places.items (λ q i. All-contains (λ p. p < length ms) old.places.items q h.inside
-          (subst (λ l. Contains l q) (sym places) (Contains-append_left new.places.items (p ∷ []) q i)));
-      indexed = indexed;
-      demands = demands_pop ms wanted new.places.items old.places.items p count old.asked.items new.asked.items places n asked h.demands;
-      chosen = chosen_pop ms new.places.items old.places.items old.chosen.items new.chosen.items p k places at free inside h.chosen chosen;
-    }
-
 -- what is wanted is asked, and no place is taken
 pub board_start : (ms : List Member) (wanted : List Need) (board : Board) (ds : List Demand) → board.places.items ≡ [] → board.asked.items ≡ ds →
     AreDemands ms (claims_from None wanted) ds → IsIndexed (length ms) board → ((k : ℕ) → slice_index_or board.chosen.items k None ≡ None) →
@@ -148,24 +127,6 @@ board_start ms wanted board ds places asked h indexed none = record {
       (sym asked) h));
   chosen = chosen_start ms board.places.items board.chosen.items places none;
 }
-
--- the number that comes next is asked for, also once its place's demands are taken back
-pub next_asked : (ms : List Member) (wanted : List Need) (taken : List ℕ) (asked : List Demand) (k : ℕ) → AreDemands ms (claims_of ms wanted taken) asked →
-    IsNextNumber ms wanted taken k → IsAsked asked k
-next_asked ms wanted taken asked k h next =
-    let known = next.next in
-    let r = demand_required ms wanted taken asked next.name h known.listed in (
-      r.0,
-      r.1,
-      number_same ms next.name r.0.number k (subst (λ n. IsNumber ms n r.0.number) r.2 (number_for ms (claims_of ms wanted taken) asked r.0 h r.1))
-          next.is,
-    )
-
-pub asked_back : (ms : List Member) (wanted : List Need) (old : Board) (taken : List ℕ) (p k count : ℕ) (asked : List Demand) → IsBoard ms wanted old →
-    old.places.items ≡ taken ++ p ∷ [] → IsNextNumber ms wanted taken k → count ≡ length (needs_of ms p) →
-    asked ≡ take (length old.asked.items - count) old.asked.items → IsAsked asked k
-asked_back ms wanted old taken p k count asked h places next n e =
-    next_asked ms wanted taken asked k (demands_pop ms wanted taken old.places.items p count old.asked.items asked places n e h.demands) next
 
 -- ---- the next name
 
@@ -217,53 +178,3 @@ next_found cs wanted board k up h there least =
       };
     }
 
--- ---- reasons
-
-pub reason_none : (ms : List Member) (wanted : List Need) (taken : List ℕ) (asked : List Demand) (d : Demand) (n : List ℕ) →
-    AreDemands ms (claims_of ms wanted taken) asked → Contains asked d → d.name.now ≡ n → d.from ≡ None → IsReason ms wanted taken n []
-reason_none ms wanted taken asked d n h i e f = record {
-  enough = elim (from_claims ms wanted taken (claim d) (claim_for ms (claims_of ms wanted taken) asked d h i)) [
-    | inl w ↦ subst (Contains (required_names ms wanted [])) e (required_by_wanted ms wanted [] (demand_need d) w.1)
-    | inr w ↦ (let by = w.1 in absurd (none-some w.0 (sym f ∙ by.from)))
-  ];
-  within = λ x j. absurd (in_nil x j);
-}
-
-pub reason_one : (ms : List Member) (wanted : List Need) (taken : List ℕ) (asked : List Demand) (d : Demand) (n : List ℕ) (p : ℕ) →
-    AreDemands ms (claims_of ms wanted taken) asked → Contains asked d → d.name.now ≡ n → d.from ≡ Some p → IsReason ms wanted taken n (p ∷ [])
-reason_one ms wanted taken asked d n p h i e f = elim (from_claims ms wanted taken (claim d) (claim_for ms (claims_of ms wanted taken) asked d h i)) [
-  | inl w ↦ absurd (none-some p (sym w.0 ∙ f))
-  | inr w ↦ (let by = w.1 in
-      let same : w.0 ≡ p = same_Some w.0 p (sym by.from ∙ f) in
-      record {
-        enough = subst (Contains (required_names ms wanted (p ∷ []))) e (required_by_need ms wanted (p
-            ∷ []) p (demand_need d) (Contains-push [] p) (subst (λ z. Contains (needs_of ms z) (demand_need d)) same by.is));
-        within = λ x j. subst (Contains taken) (in_one p x j) (subst (Contains taken) same by.place);
-      })
-]
-
-reason_of : (ms : List Member) (wanted : List Need) (taken : List ℕ) (asked : List Demand) (d : Demand) (n : List ℕ) (o : Option ℕ) (reason : List ℕ) →
-    AreDemands ms (claims_of ms wanted taken) asked → Contains asked d → d.name.now ≡ n
-    → d.from ≡ o → MatchOption o (reason ≡ []) (λ p. reason ≡ p ∷ []) → IsReason ms wanted taken n reason
-reason_of ms wanted taken asked d n None reason h i e f m = subst (IsReason ms wanted taken n) (sym m) (reason_none ms wanted taken asked d n h i e f)
-reason_of ms wanted taken asked d n (Some p) reason h i e f m = subst (IsReason ms wanted taken n) (sym m) (reason_one ms wanted taken asked d n p h i e f)
-
-head_none : {X : Type 0} (l : List X) → slice_get l 0 ≡ None → length l ≡ 0
-head_none [] e = refl
-head_none (x ∷ l) e = absurd (none-some x (sym e))
-
--- the row of the number that comes next is not empty
-pub row_begins : (ms : List Member) (wanted : List Need) (taken : List ℕ) (asked : List Demand) (k : ℕ) → AreDemands ms (claims_of ms wanted taken) asked →
-    IsNextNumber ms wanted taken k → slice_get (row k asked) 0 ≡ None → ⊥
-row_begins ms wanted taken asked k h next e = asked_in_row k asked (next_asked ms wanted taken asked k h next) (head_none (row k asked) e)
-
--- the one that asks first is enough
-pub reason_first : (ms : List Member) (wanted : List Need) (taken : List ℕ) (asked : List Demand) (d : Demand) (n : List ℕ) (k : ℕ) (o : Option ℕ)
-    (reason : List ℕ) → AreDemands ms (claims_of ms wanted taken) asked → slice_get (row k asked) 0 ≡ Some d → IsNumber ms n k
-    → d.from ≡ o → MatchOption o (reason ≡ []) (λ p. reason ≡ p ∷ []) → IsReason ms wanted taken n reason
-reason_first ms wanted taken asked d n k o reason h e is f m =
-    let lt = slice_get_within (row k asked) 0 d e in
-    let i = in_filter (λ (x : Demand). eqb x.number k) asked d (0, lt, get_or_from_slice_get (row k asked) 0 d d e) in
-    let numbered = number_for ms (claims_of ms wanted taken) asked d h i.0 in
-    let name : d.name.now ≡ n = same_Some d.name.now n (sym numbered.named ∙ ap (name_of ms) (eqb-true d.number k i.1) ∙ is.named) in
-    reason_of ms wanted taken asked d n o reason h i.0 name f m

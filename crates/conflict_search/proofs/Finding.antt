@@ -105,7 +105,7 @@ name_there cs p n d e = let r = candidate_at cs p n e in ap (λ (c : Candidate).
 pub within_there : (cs : List Candidate) (p : ℕ) (n : List ℕ) → name_of (members cs) p ≡ Some n → p < length cs
 within_there cs p n e = let r = candidate_at cs p n e in slice_get_within cs p r.0 r.1
 
-name_is : (cs : List Candidate) (p : ℕ) (d : Candidate) → p < length cs → name_of (members cs) p ≡ Some (get_or cs p d).recipe.name
+pub name_is : (cs : List Candidate) (p : ℕ) (d : Candidate) → p < length cs → name_of (members cs) p ≡ Some (get_or cs p d).recipe.name
 name_is cs p d lt = ap name_in (slice_get-map member cs p ∙ ap (option_map member) (slice_get-get_or cs p d lt))
 
 -- names rise with places

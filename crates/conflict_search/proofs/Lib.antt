@@ -1,4 +1,4 @@
-mod Nogoods
+mod Prefixes
 mod Indexing
 mod Finding
 mod Claiming
@@ -6,3 +6,12 @@ mod Trying
 mod Each
 mod Boarding
 mod Linking
+mod Words
+mod Naming
+mod Gathering
+mod Learning
+mod Drafting
+mod Ending
+mod Shrinking
+mod Stepping
+mod Demanding

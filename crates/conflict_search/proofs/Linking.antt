@@ -14,7 +14,7 @@ use Rattle.dep_order.specs.Orders as orders
 use Rattle.recipe_reader.specs.Members.{Need, Member}
 use Rattle.recipe_reader.specs.Sets.{name_of, needs_of, HasDependency}
 use Rattle.recipe_reader.specs.Searches.{IsConsistent}
-use Rattle.conflict_search.specs.Conflicts.{IsNogood, IsConflict}
+use Rattle.conflict_search.specs.Conflicts.{CannotStand, IsConflict}
 use Rattle.conflict_search.specs.Numbers.{IsNumber}
 use Rattle.conflict_search.specs.Claims.{Claim, claims_of, demand_need, claim, AreDemands}
 use Rattle.conflict_search.specs.Boards.{IsChosen, IsBoard}

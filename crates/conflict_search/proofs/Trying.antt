@@ -14,13 +14,13 @@ use Rattle.recipe_reader.specs.Sets.{name_of, version_of, needs_of, IsMetBy, Has
 use Rattle.recipe_reader.specs.Searches.{IsConsistent, IsSuited}
 use Rattle.recipe_reader.proofs.Required.{required_by_need}
 use Rattle.recipe_reader.proofs.ValidSets.{complete_from}
-use Rattle.conflict_search.specs.Conflicts.{IsNogood, IsConflict, IsConflictWith, AreInRange, IsInRangeWith}
+use Rattle.conflict_search.specs.Conflicts.{CannotStand, IsConflict, IsConflictWith, AreInRange, IsInRangeWith}
 use Rattle.conflict_search.specs.Numbers.{IsNumber, IsUnknown, IsNumberAt}
 use Rattle.conflict_search.specs.Claims.{Claim, claims_from, claims_of, demand_need, claim, AreDemands}
 use Rattle.conflict_search.specs.Boards.{IsChosen}
 use Rattle.conflict_search.specs.Stands.{IsMetIn}
 use Rattle.conflict_search.specs.declared.demands.Demand.{Demand}
-use Rattle.conflict_search.proofs.Nogoods.{nogood_bad}
+use Rattle.conflict_search.proofs.Prefixes.{nogood_bad}
 use Rattle.conflict_search.proofs.Finding.{number_same}
 use Rattle.conflict_search.proofs.Indexing.{row}
 use Rattle.conflict_search.proofs.Claiming.{IsClaimOf, wanted_claim, need_claim, from_claims, from_claims_from, claim_in, demand_for, claim_for, number_for}
@@ -59,14 +59,14 @@ module _ (ms : List Member) (wanted : List Need) where
   -- ---- places that cannot stand
 
   pub nogood_need : (s : List ℕ) (p q : ℕ) (d : Need) → Contains s p → Contains s q → Contains (needs_of ms p) d → name_of ms q ≡ Some d.name →
-      (IsMetBy ms d.name d.range q → ⊥) → IsNogood ms wanted s
+      (IsMetBy ms d.name d.range q → ⊥) → CannotStand ms wanted s
   nogood_need s p q d i j k e bad = nogood_bad ms wanted s (λ c. bad (c.needs_hold p i d k q j e))
 
   pub nogood_wanted : (s : List ℕ) (p : ℕ) (w : Need) → Contains s p → Contains wanted w → name_of ms p ≡ Some w.name → (IsMetBy ms w.name w.range p → ⊥) →
-      IsNogood ms wanted s
+      CannotStand ms wanted s
   nogood_wanted s p w i k e bad = nogood_bad ms wanted s (λ c. bad (c.wanted_hold w k p i e))
 
-  pub nogood_unknown : (s : List ℕ) (p : ℕ) (d : Need) → Contains s p → Contains (needs_of ms p) d → IsUnknown ms d.name → IsNogood ms wanted s
+  pub nogood_unknown : (s : List ℕ) (p : ℕ) (d : Need) → Contains s p → Contains (needs_of ms p) d → IsUnknown ms d.name → CannotStand ms wanted s
   nogood_unknown s p d i k unknown = record {
     none = λ walk w c within. (let t = complete_from ms wanted [] walk w d.name (required_by_need ms wanted walk p d (within p i) k) in unknown t.0 t.2);
   }
@@ -179,16 +179,5 @@ unknown_conflict ms wanted taken place d both i unknown are = record {
   within = λ x j. elim ((are x).0 j) [
     | inl f ↦ subst (Contains (taken ++ place ∷ [])) f (Contains-push taken place)
     | inr f ↦ absurd (none-some x f)
-  ];
-}
-
--- a set that cannot stand, and would
-pub kept_conflict : (ms : List Member) (wanted : List Need) (taken : List ℕ) (chosen : List (Option ℕ)) (place : ℕ) (s : List ℕ) → IsChosen ms taken chosen →
-    IsNogood ms wanted s → ((x : ℕ) → Contains s x → (place ≡ x) ⊎ ((k : ℕ) × (slice_index_or chosen k None ≡ Some x))) → IsConflictWith ms wanted taken place s
-kept_conflict ms wanted taken chosen place s is nogood all = record {
-  nogood = nogood;
-  within = λ x j. elim (all x j) [
-    | inl f ↦ subst (Contains (taken ++ place ∷ [])) f (Contains-push taken place)
-    | inr r ↦ (let there = is.only x r.0 r.1 in Contains-append_left taken (place ∷ []) x there.0)
   ];
 }

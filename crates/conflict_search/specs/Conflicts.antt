@@ -1,17 +1,17 @@
 -- Decisions that cannot stand together.
-use Rattle.std.specs.Prelude.{◌≡◌, ◌≢◌, ◌⊎◌, ℕ, List, [], ◌∷◌, ◌++◌}
+use Rattle.std.specs.Prelude.{◌≢◌, ℕ, List, [], ◌∷◌, ◌++◌}
 use Rattle.std.specs.List.{Contains}
 use Rattle.recipe_reader.specs.Members.{Need, Member}
-use Rattle.recipe_reader.specs.Sets.{needs_of, required_names, IsWalk}
+use Rattle.recipe_reader.specs.Sets.{needs_of, IsWalk}
 use Rattle.recipe_reader.specs.Searches.{IsConsistent, IsSuited}
 
 -- no consistent walk has all of the places
-pub record IsNogood (ms : List Member) (wanted : List Need) (conflict : List ℕ) : Type 0 where
+pub record CannotStand (ms : List Member) (wanted : List Need) (conflict : List ℕ) : Type 0 where
   pub none : (walk : List ℕ) → IsWalk ms wanted [] walk → IsConsistent ms wanted walk → ((x : ℕ) → Contains conflict x → Contains walk x) → ⊥
 
 -- such places among those that are taken
 pub record IsConflict (ms : List Member) (wanted : List Need) (taken conflict : List ℕ) : Type 0 where
-  pub nogood : IsNogood ms wanted conflict
+  pub nogood : CannotStand ms wanted conflict
   pub within : (x : ℕ) → Contains conflict x → Contains taken x
 
 -- a conflict where one more place is taken
@@ -21,17 +21,6 @@ IsConflictWith ms wanted taken place conflict = IsConflict ms wanted (taken ++ p
 -- what goes on from the places is a walk from the start
 pub record IsPrefix (ms : List Member) (wanted : List Need) (taken : List ℕ) : Type 0 where
   pub goes_on : (walk : List ℕ) → IsWalk ms wanted taken walk → IsWalk ms wanted [] (taken ++ walk)
-
--- the new places are the old ones and the others of the conflict
-pub record JoinsOthers (place : ℕ) (conflict old new : List ℕ) : Type 0 where
-  pub kept : (x : ℕ) → Contains old x → Contains new x
-  pub joined : (x : ℕ) → Contains conflict x → (place ≡ x) ⊎ Contains new x
-  pub only : (x : ℕ) → Contains new x → Contains old x ⊎ (Contains conflict x × (place ≢ x))
-
--- the places among those that are taken are enough to require the name
-pub record IsReason (ms : List Member) (wanted : List Need) (taken : List ℕ) (name : List ℕ) (reason : List ℕ) : Type 0 where
-  pub enough : Contains (required_names ms wanted reason) name
-  pub within : (x : ℕ) → Contains reason x → Contains taken x
 
 -- ranges hold among the places, each with each other
 pub record AreInRange (ms : List Member) (wanted : List Need) (taken : List ℕ) : Type 0 where

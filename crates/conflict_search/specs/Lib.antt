@@ -4,3 +4,7 @@ pub mod Claims
 pub mod Boards
 pub mod Edges
 pub mod Stands
+pub mod Terms
+pub mod States
+pub mod Endless
+pub mod Facts

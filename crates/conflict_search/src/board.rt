@@ -1,10 +1,10 @@
 //! The decided places, and what is asked, under the numbers of names.
 
-ghost use Rattle.std.specs.Prelude.{◌≡◌, ◌≢◌, ◌⊎◌, ◌↔◌, ◌<◌, ◌-◌, ◌++◌, ◌∷◌, [], ℕ, Some, None, length, take, slice_set, slice_index_or, filter, ◌==◌, ◌≤◌};
+ghost use Rattle.std.specs.Prelude.{◌≡◌, ◌≢◌, ◌⊎◌, ◌↔◌, ◌<◌, ◌++◌, ◌∷◌, [], ℕ, Some, None, length, slice_set, slice_index_or, filter, ◌==◌, ◌≤◌};
 ghost use Rattle.std.specs.Prelude.{IfOk, OnOk, MatchOption};
 ghost use Rattle.std.specs.List.{All, Contains};
 ghost use Rattle.recipe_reader.specs.Members.{Need, Member};
-ghost use Rattle.conflict_search.specs.Boards.{IsIndexed, IsAsked};
+ghost use Rattle.conflict_search.specs.Boards.{IsIndexed};
 
 use crate::demands::Demand;
 use nuc_base::NoMemory;
@@ -74,15 +74,6 @@ fn add_unchosen(
     }
 }
 
-/// Removes the number where nothing is asked of it any more.
-fn remove_unasked(numbers: &mut BTreeSet<u32>, number: u32, row: &[Demand])
-    ensures { (q : ℕ) → Contains numbers.new.keys q ↔ Contains numbers.old.keys q × (length row.now ≡ 0 → q ≢ number) }
-{
-    if row.is_empty() {
-        remove_number(numbers, number);
-    }
-}
-
 impl<'a> Board<'a> {
     /// Nothing is decided or asked, of so many candidates.
     pub(crate) fn new(alloc: Global, count: usize) -> Result<Board<'a>, NoMemory>
@@ -118,22 +109,6 @@ impl<'a> Board<'a> {
         Ok(())
     }
 
-    /// Takes back what was asked last.
-    fn unask(&mut self)
-        requires indexed { IsIndexed (length self.old.chosen.items) self.old }
-        ensures indexed { IsIndexed (length self.old.chosen.items) self.new }
-        ensures asked { self.new.asked.items ≡ take (length self.old.asked.items - 1) self.old.asked.items }
-        ensures places { self.new.places.items ≡ self.old.places.items }
-        ensures chosen { self.new.chosen.items ≡ self.old.chosen.items }
-    {
-        let Some(demand) = self.asked.pop() else {
-            return;
-        };
-        let _ = self.rows[demand.number as usize].pop();
-        let row = self.rows[demand.number as usize].as_slice();
-        remove_unasked(&mut self.waiting, demand.number, row);
-    }
-
     /// Asks for some things more.
     pub(crate) fn ask_all(&mut self, demands: &[Demand<'a>]) -> Result<(), NoMemory>
         requires indexed { IsIndexed (length self.old.chosen.items) self.old }
@@ -149,19 +124,6 @@ impl<'a> Board<'a> {
         Ok(())
     }
 
-    /// Takes back so many things that were asked last.
-    pub(crate) fn unask_last(&mut self, count: usize)
-        requires indexed { IsIndexed (length self.old.chosen.items) self.old }
-        ensures indexed { IsIndexed (length self.old.chosen.items) self.new }
-        ensures asked { self.new.asked.items ≡ take (length self.old.asked.items - count) self.old.asked.items }
-        ensures places { self.new.places.items ≡ self.old.places.items }
-        ensures chosen { self.new.chosen.items ≡ self.old.chosen.items }
-    {
-        for _demand in 0..count {
-            self.unask();
-        }
-    }
-
     /// Takes the place for the name with that number.
     pub(crate) fn choose(&mut self, number: u32, place: u32) -> Result<(), NoMemory>
         requires indexed { IsIndexed (length self.old.chosen.items) self.old }
@@ -174,22 +136,6 @@ impl<'a> Board<'a> {
         self.places.push(place)?;
         self.chosen[number as usize] = Some(place);
         remove_number(&mut self.waiting, number);
-        Ok(())
-    }
-
-    /// Takes back the last place, which was taken for the name with that number.
-    pub(crate) fn unchoose(&mut self, number: u32) -> Result<(), NoMemory>
-        requires indexed { IsIndexed (length self.old.chosen.items) self.old }
-        requires number { number < length self.old.chosen.items }
-        requires asked { IsAsked self.old.asked.items number }
-        ensures indexed { OnOk result (IsIndexed (length self.old.chosen.items) self.new) }
-        ensures places { self.new.places.items ≡ take (length self.old.places.items - 1) self.old.places.items }
-        ensures chosen { OnOk result (self.new.chosen.items ≡ slice_set self.old.chosen.items number None) }
-        ensures asked { self.new.asked.items ≡ self.old.asked.items }
-    {
-        let _ = self.places.pop();
-        self.chosen[number as usize] = None;
-        add_number(&mut self.waiting, number)?;
         Ok(())
     }
 

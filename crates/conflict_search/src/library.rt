@@ -1,3 +1,4 @@
+use crate::names::Names;
 use recipe_reader::{Candidate, Wanted};
 use std::alloc::Global;
 
@@ -7,4 +8,5 @@ pub(crate) struct Library<'a> {
     pub(crate) alloc: Global,
     pub(crate) candidates: &'a [Candidate],
     pub(crate) wanted: &'a [Wanted],
+    pub(crate) names: &'a Names,
 }

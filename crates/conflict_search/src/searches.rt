@@ -1,20 +1,34 @@
 //! The search.
 
-ghost use Rattle.std.specs.Prelude.{◌≡◌, ◌≤◌, ◌<◌, ◌^◌, [], ℕ, List, Err, length, IfOk, MatchOption};
+ghost use Rattle.std.specs.Prelude.{◌≡◌, ◌≤◌, ◌<◌, ◌^◌, [], ℕ, List, None, Err, length, IfOk, MatchOption};
 ghost use Rattle.recipe_reader.specs.Members.{members, IsRising};
 ghost use Rattle.recipe_reader.specs.Sets.{asked, IsPreferred, IsValid};
 ghost use Rattle.recipe_reader.specs.Searches.{IsBest};
 ghost use Rattle.recipe_reader.specs.Candidates.{AreCandidates};
-ghost use Rattle.conflict_search.specs.Stands.{members_in, wanted_in, IsSearchState};
+ghost use Rattle.conflict_search.specs.Claims.{claims_from, AreDemands};
+ghost use Rattle.conflict_search.specs.Stands.{members_in, wanted_in};
+ghost use Rattle.conflict_search.specs.Terms.{AreNames};
+ghost use Rattle.conflict_search.specs.States.{IsReady};
 
 use crate::board::Board;
-use crate::demands::demands_wanted;
-use crate::kept::Kept;
+use crate::budget::Stop;
+use crate::demands::{Demand, demands_wanted};
 use crate::library::Library;
-use crate::walk::State;
+use crate::names::Names;
+use crate::nogoods::Nogoods;
+use crate::state::State;
+use crate::trail::Trail;
+use crate::watches::Watches;
 use nuc_base::{List, NoMemory};
 use recipe_reader::{Candidates, Wanted};
 use std::alloc::Global;
+
+/// So many steps a search allows itself: one for each nogood that is looked at and each of its terms, and for each name
+/// that the walk comes to.
+const MOST_STEPS: u64 = 16_777_216;
+
+/// So many bytes what is learned may take.
+const MOST_ROOM: u64 = 4_194_304;
 
 /// Why no set was chosen.
 #[derive(Debug, Drop)]
@@ -25,53 +39,69 @@ pub enum SearchFault {
 }
 
 impl<'a> Library<'a> {
-    /// Nothing is decided and what is wanted is asked for. None where no candidate has a name that is wanted.
-    fn start(&self) -> Result<Option<State<'a>>, NoMemory>
+    /// What is known before any search: the facts. Nothing is decided.
+    fn start(&self, wanted: &[Demand<'a>]) -> Result<State<'a>, NoMemory>
         requires count { length self.now.candidates.now < 2 ^ 32 }
         requires rising { IsRising (members_in self.now) }
-        ensures { IfOk result (λ start. MatchOption start
-            ((s : List ℕ) → IsValid (members_in self.now) (wanted_in self.now) s → ⊥)
-            (λ state. IsSearchState self.now state × (state.board.places.items ≡ []))) }
+        requires names { AreNames (members_in self.now) self.now.names.now }
+        requires wanted { AreDemands (members_in self.now) (claims_from None (wanted_in self.now)) wanted.now }
+        ensures { IfOk result (IsReady self.now) }
     {
-        let Some(demands) = demands_wanted(self.alloc, self.candidates, self.wanted)? else {
-            return Ok(None);
+        let mut nogoods = Nogoods {
+            list: Vec::new(self.alloc),
         };
-        let mut board = Board::new(self.alloc, self.candidates.len())?;
-        board.ask_all(demands.as_slice())?;
-        let kept = Kept::new(self)?;
-        Ok(Some(State { board, kept }))
+        self.add_facts(&mut nogoods, wanted)?;
+        let board = Board::new(self.alloc, 0)?;
+        let full = self.full_row()?;
+        let trail = Trail {
+            domains: self.full_row()?,
+            root: self.full_row()?,
+            events: Vec::new(self.alloc),
+            root_events: 0,
+            spread: 0,
+            level: 0,
+        };
+        let watches = Watches::new(self.alloc, self.candidates.len())?;
+        Ok(State {
+            board,
+            nogoods,
+            trail,
+            watches,
+            full,
+            room: MOST_ROOM,
+        })
     }
 
     /// The best consistent walk, or none.
-    fn best(&self, tries: &mut u64) -> Result<Option<Vec<u32>>, NoMemory>
+    fn best(&self, left: &mut u64, tries: &mut u64) -> Result<Option<Vec<u32>>, Stop>
         requires count { length self.now.candidates.now < 2 ^ 32 }
         requires rising { IsRising (members_in self.now) }
+        requires names { AreNames (members_in self.now) self.now.names.now }
         ensures found { IfOk result (λ found. MatchOption found
             ((s : List ℕ) → IsValid (members_in self.now) (wanted_in self.now) s → ⊥)
             (λ path. IsBest (members_in self.now) (wanted_in self.now) [] path.items)) }
+        ensures spent { result ≡ Err Stop.Spent → left.new ≡ 0 }
         ensures rises { tries.old ≤ tries.new }
     {
-        let Some(mut state) = self.start()? else {
+        let Some(wanted) = demands_wanted(self.alloc, self.candidates, self.wanted)? else {
             return Ok(None);
         };
-        match self.go_on(&mut state, tries)? {
-            Some(_) => Ok(None),
-            None => Ok(Some(state.board.places)),
-        }
+        let state = self.start(wanted.as_slice())?;
+        self.run(state, wanted.as_slice(), left, tries)
     }
 }
 
 /// The preferred valid set of the candidates for what is wanted, as places in their list, rising. `NoVersion` comes exactly
-/// where no set is valid, and `NoMemory` where memory was refused.
+/// where no set is valid. `NoMemory` comes where memory was refused, and where the search used up what it allows itself:
+/// 16,777,216 steps, or 4 MiB of learned nogoods. The same input gives the same answer everywhere: steps are counted, and
+/// no clock is asked.
 ///
-/// Valid and preferred sets are those of `resolver`. `tries` rises by one for each candidate that is looked at, and stays
+/// Valid and preferred sets are those of `resolver`. `tries` rises by one for each name that the walk comes to, and stays
 /// at its type's end.
 ///
-/// Where no version is refused, the time is that of what is wanted and of the dependencies of the chosen candidates, times
-/// the logarithm of the candidates. A version that is refused is blamed on the place that was decided first of those that
-/// refuse it. Where all versions of a name fail, the places that are blamed for them and the first that asks for the name
-/// cannot stand together: the search goes back to the latest of them, and keeps the set. Cycles are looked for where no
-/// name is left.
+/// It begins with the facts of all names that can be reached from what is wanted, so its time is at least that of their
+/// dependencies, times the logarithm of the candidates. Each conflict makes it start again from the root. Cycles are looked
+/// for where no name is left. It has no recursion.
 pub fn search(
     alloc: Global,
     candidates: &Candidates,
@@ -82,12 +112,18 @@ pub fn search(
     ensures none { result ≡ Err SearchFault.NoVersion → (s : List ℕ) → IsValid (members candidates.now) (asked wanted.now) s → ⊥ }
     ensures tries { tries.old ≤ tries.new }
 {
+    let members = candidates.list().as_slice();
+    let Ok(names) = Names::new(alloc, members) else {
+        return Err(SearchFault::NoMemory);
+    };
     let library = Library {
         alloc,
-        candidates: candidates.list().as_slice(),
+        candidates: members,
         wanted: wanted.as_slice(),
+        names: &names,
     };
-    match library.best(tries) {
+    let mut left = MOST_STEPS;
+    match library.best(&mut left, tries) {
         Ok(Some(mut path)) => {
             path.sort_unstable();
             Ok(List::new(path))

@@ -10,11 +10,10 @@ ghost use Rattle.conflict_search.specs.Numbers.{IsNumberAt};
 ghost use Rattle.conflict_search.specs.Claims.{claims_from, AreDemands};
 ghost use Rattle.conflict_search.specs.Conflicts.{IsConflictWith, IsInRangeWith};
 ghost use Rattle.conflict_search.specs.Boards.{IsBoard};
-ghost use Rattle.conflict_search.specs.Stands.{members_in, wanted_in, AreKept, IsTrial, IsMetIn};
+ghost use Rattle.conflict_search.specs.Stands.{members_in, wanted_in, IsTrial, IsMetIn};
 
 use crate::board::Board;
 use crate::demands::{Demand, demands_of};
-use crate::kept::Kept;
 use crate::library::Library;
 use crate::places::version_at;
 use npm_ranges::Version;
@@ -138,20 +137,15 @@ impl<'a> Library<'a> {
     pub(crate) fn try_place(
         &self,
         board: &Board,
-        kept: &Kept,
         number: u32,
         place: u32,
     ) -> Result<Trial<'a>, NoMemory>
         requires count { length self.now.candidates.now < 2 ^ 32 }
         requires rising { IsRising (members_in self.now) }
         requires board { IsBoard (members_in self.now) (wanted_in self.now) board.now }
-        requires kept { AreKept (members_in self.now) (wanted_in self.now) kept.now }
         requires number { IsNumberAt (members_in self.now) place number }
         ensures { IfOk result (IsTrial (members_in self.now) (wanted_in self.now) board.now.places.items place) }
     {
-        if let Some(conflict) = kept.against(self, board, place)? {
-            return Ok(Trial::Refused(conflict));
-        }
         if let Some(conflict) = self.asked_against(board, number, place)? {
             return Ok(Trial::Refused(conflict));
         }
