@@ -403,7 +403,11 @@ fn what_children_print_goes_to_their_log(rt: HostRuntime) -> Result<(), Fail> {
 
 /// Starts a step that writes to the file `beats` of its folder again and again, as a child of its shell where that is asked
 /// for, whose end it does not await, and waits for the first.
-fn starts_beating<R: Runner>(rt: &HostRuntime, runner: &mut R, is_left: bool) -> Result<bool, NoMemory> {
+fn starts_beating<R: Runner>(
+    rt: &HostRuntime,
+    runner: &mut R,
+    is_left: bool,
+) -> Result<bool, NoMemory> {
     let beat = "while :; do echo x >> beats; sleep 0.05; done";
     let left = "(while :; do echo x >> beats; sleep 0.05; done) & exit 0";
     let script = if is_left { left } else { beat };
@@ -502,7 +506,11 @@ fn stubborn(rt: &HostRuntime) -> Stubborn<'_> {
 }
 
 /// How many milliseconds the kills of two children take that live on whatever is done.
-fn kills_of_two<R: Runner>(rt: &HostRuntime, runner: &mut R, folder: &str) -> Result<Option<u128>, Fail> {
+fn kills_of_two<R: Runner>(
+    rt: &HostRuntime,
+    runner: &mut R,
+    folder: &str,
+) -> Result<Option<u128>, Fail> {
     let command = command(rt.alloc(), folder, "exec sleep 30").map_err(|_| Fail::new("no memory"))?;
     let (Ok(first), Ok(second)) = (runner.start(&command), runner.start(&command)) else {
         return Ok(None);
@@ -524,14 +532,21 @@ fn what_cannot_be_ended_is_let_go(rt: HostRuntime) -> Result<(), Fail> {
     let is_quiet = runner.wait(0) == Waited::Elapsed;
     drop(runner);
     let events = fs::read_to_string(&rt, "let-go-of-a-test/logs/events")?;
-    let told = events.as_str().lines().filter(|line| line.contains(" lives-on A ")).count();
+    let told = events
+        .as_str()
+        .lines()
+        .filter(|line| line.contains(" lives-on A "))
+        .count();
     let notes = fs::metadata(&rt, "let-go-of-a-test/children")?.len();
     fs::remove_dir_all(&rt, root)?;
     assert!(rt; is_quiet && told == 2);
     // Both are still noted, for a later call.
     assert!(rt; notes == 192);
     // Five seconds for both, and what the programs take that end their groups.
-    assert!(rt; took.is_some_and(|took| took >= 4_000 && took < 12_000), "{took:?}");
+    assert!(rt;
+        took.is_some_and(|took| took >= 4_000 && took < 12_000),
+        "{took:?}"
+    );
     Ok(())
 }
 
@@ -591,14 +606,25 @@ fn what_happens_to_children_is_told(rt: HostRuntime) -> Result<(), Fail> {
     let root = "told-of-a-test";
     fs::create_dir_all(&rt, "told-of-a-test/logs")?;
     let mut runner = ShellRunner::new(&rt, root);
-    let code = ended(rt.alloc(), &mut runner, "told-of-a-test/work/events", "exit $END");
+    let code = ended(
+        rt.alloc(),
+        &mut runner,
+        "told-of-a-test/work/events",
+        "exit $END",
+    );
     let is_killed = is_killed(rt.alloc(), &mut runner, "told-of-a-test/work/B") == Ok(true);
     drop(runner);
     let events = fs::read_to_string(&rt, "told-of-a-test/logs/events")?;
     let own = fs::read_to_string(&rt, "told-of-a-test/logs/events.log")?;
     fs::remove_dir_all(&rt, root)?;
     assert!(rt; code == Ok(Some(Exit::Code(3))) && is_killed);
-    for word in [" start events ", " end events ", " code 3\n", " start B ", " kill B "] {
+    for word in [
+        " start events ",
+        " end events ",
+        " code 3\n",
+        " start B ",
+        " kill B ",
+    ] {
         assert!(rt; events.as_str().contains(word), "{word}");
     }
     // The log of a component `events` is another one.
