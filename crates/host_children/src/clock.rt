@@ -22,6 +22,16 @@ pub(crate) fn millis_since<C: Clock>(clock: &C, start: &Option<Instant>) -> Opti
     }
 }
 
+/// How many milliseconds passed since then: what was counted, where the clock cannot be read.
+pub(crate) fn waited_since<C: Clock>(clock: &C, start: &Option<Instant>, counted: u64) -> u64
+    ensures { counted ≤ result }
+{
+    match millis_since(clock, start) {
+        Some(millis) => millis.max(counted),
+        None => counted,
+    }
+}
+
 /// The moment so many milliseconds after the beginning, of which `stood` do not count. It is not before `least`, and is
 /// that where the clock cannot be read.
 pub(crate) fn moment_at(millis: Option<u64>, stood: u64, least: u64) -> u64

@@ -1,6 +1,6 @@
 //! The children of an earlier call, which was killed before they ended.
 
-use crate::clock::{PATIENCE_MS, pause_within};
+use crate::clock::{PATIENCE_MS, pause_within, waited_since};
 use crate::keeper::{Keeper, run_killer};
 use crate::notes::{Extent, Note};
 use crate::processes::{Seen, all_seen};
@@ -9,7 +9,7 @@ use host_files::Event;
 use std::fs::{File, Files};
 use std::process::Processes;
 use std::rt::Clock;
-use std::time::Duration;
+use std::time::{Duration, Instant};
 use std::{io, thread};
 
 /// What is told of a component where only its process is known.
@@ -60,6 +60,7 @@ impl<'a, R: Processes + Clock + Files<File = File> + AllocGlobal> Keeper<'a, R> 
 
     /// Looks until none of them lives, or the patience is over, and answers what was seen last.
     fn await_ends(&self, notes: &[Note]) -> io::Result<Vec<Seen>> {
+        let start = Instant::now(self.rt).ok();
         let mut waited: u64 = 0;
         for _ in 0..u64::MAX {
             let all = all_seen(self.rt)?;
@@ -68,7 +69,7 @@ impl<'a, R: Processes + Clock + Files<File = File> + AllocGlobal> Keeper<'a, R> 
             }
             let pause = pause_within(waited);
             thread::sleep(self.rt, Duration::from_millis(pause));
-            waited = waited.saturating_add(pause);
+            waited = waited_since(self.rt, &start, waited.saturating_add(pause));
         }
         all_seen(self.rt)
     }

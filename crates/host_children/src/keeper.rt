@@ -1,7 +1,7 @@
 //! What is done with the processes of steps: they are started, noted, told of and ended.
 
 use crate::children::{Running, poll};
-use crate::clock::{PATIENCE_MS, pause_within, share_of};
+use crate::clock::{PATIENCE_MS, pause_within, share_of, waited_since};
 use crate::notes::{Extent, Note, Notes};
 use crate::output::{component_of, log_name, turn_log};
 use crate::processes::find_process;
@@ -15,7 +15,7 @@ use std::io::ErrorKind;
 use std::os::unix::fs::DirBuilderExt;
 use std::process::{Child, OpenProcess, Processes};
 use std::rt::Clock;
-use std::time::Duration;
+use std::time::{Duration, Instant};
 use std::{io, mem, process, thread};
 use step_runner::Command;
 
@@ -71,6 +71,7 @@ pub(crate) struct Keeper<'a, R: Processes> {
 
 /// Looks until it has ended, for so many milliseconds at most. An end that cannot be had is one.
 fn wait_out<C: Clock, P: OpenProcess>(clock: &C, process: &mut Child<P>, most: u64) -> Vigil {
+    let start = Instant::now(clock).ok();
     let mut waited: u64 = 0;
     for _ in 0..u64::MAX {
         let lives_on = poll(process).is_none();
@@ -79,7 +80,7 @@ fn wait_out<C: Clock, P: OpenProcess>(clock: &C, process: &mut Child<P>, most: u
         }
         let pause = pause_within(waited).min(most - waited);
         thread::sleep(clock, Duration::from_millis(pause));
-        waited = waited.saturating_add(pause);
+        waited = waited_since(clock, &start, waited.saturating_add(pause));
     }
     Vigil {
         lives_on: true,
@@ -207,11 +208,7 @@ impl<'a, R: Processes + Clock + Files<File = File> + AllocGlobal> Keeper<'a, R> 
     }
 
     /// A process that was just started, with its note. One that cannot be noted runs as well.
-    fn noted(
-        &mut self,
-        process: Child<R::Started>,
-        component: String,
-    ) -> StepProcess<R::Started> {
+    fn noted(&mut self, process: Child<R::Started>, component: String) -> StepProcess<R::Started> {
         self.log.tell(&Event::Started {
             component: component.as_str(),
             process: process.id(),

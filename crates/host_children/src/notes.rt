@@ -52,7 +52,11 @@ impl Note {
     }
 
     /// Whether the process itself lives.
-    pub(crate) fn leads_on<R: Files<File = File>>(&self, files: &R, alloc: Global) -> io::Result<bool> {
+    pub(crate) fn leads_on<R: Files<File = File>>(
+        &self,
+        files: &R,
+        alloc: Global,
+    ) -> io::Result<bool> {
         Ok(match find_process(files, alloc, self.process)? {
             Some(seen) => seen.start == self.start && !seen.has_ended,
             None => false,
@@ -162,7 +166,11 @@ fn open_notes<R: Files<File = File>>(files: &R, path: &str, makes: bool) -> io::
         Err(error) => return Err(error),
     }
     let mut options = OpenOptions::new();
-    options.read(true).write(true).create(makes).mode(NOTES_MODE);
+    options
+        .read(true)
+        .write(true)
+        .create(makes)
+        .mode(NOTES_MODE);
     options.open(files, path)
 }
 

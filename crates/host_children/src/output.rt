@@ -81,7 +81,12 @@ pub(crate) fn turn_log<R: Files<File = File>>(
     options.read(true).write(true);
     let file = options.open(files, log.as_str())?;
     let mut kept = make_anew(files, before.as_str())?;
-    copy_end(alloc, &file, found.len().saturating_sub(LOG_LIMIT), &mut kept)?;
+    copy_end(
+        alloc,
+        &file,
+        found.len().saturating_sub(LOG_LIMIT),
+        &mut kept,
+    )?;
     file.set_len(0)
 }
 

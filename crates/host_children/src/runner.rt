@@ -171,8 +171,7 @@ impl<'a, R: Processes + Clock + Files<File = File> + Env + AllocGlobal> ShellRun
             return ended;
         }
         'polling: while self.clock < until {
-            self.keeper
-                .turn_logs(self.children.as_slice(), self.clock);
+            self.keeper.turn_logs(self.children.as_slice(), self.clock);
             let pause = pause_after(self.clock.saturating_sub(self.stirred));
             thread::sleep(
                 self.rt,

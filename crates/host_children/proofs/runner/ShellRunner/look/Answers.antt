@@ -22,4 +22,5 @@ returns-else-is_none-clause-lived g c =
 
 pub returns-then-is_some-clause-lived : goal.returns-then-is_some-clause-lived
 returns-then-is_some-clause-lived g c =
-    subst (λ ns. IfSome c.first_ended-untold.result (λ e. Contains ns e.0)) (ap (map (λ r. r.number)) c.as_slice.ensures.value) c.first_ended-untold.ensures.lived
+    subst (λ ns. IfSome c.first_ended-untold.result (λ e. Contains ns e.0)) (ap (map (λ r. r.number)) c.as_slice.ensures.value)
+    c.first_ended-untold.ensures.lived
