@@ -12,6 +12,7 @@ use std::alloc::Global;
 use std::fs;
 use std::os::unix::fs::{PermissionsExt, symlink};
 use std::test::Fail;
+use std::time::Instant;
 
 /// Whether the shell runs the script in that folder to a good end.
 fn runs(rt: &HostRuntime, folder: &str, script: &str) -> Result<bool, Fail> {
@@ -60,6 +61,17 @@ fn recipe_is(
     }
 }
 
+/// Whether the recipe at this place cannot be had, which three tries with a tenth of a second between show.
+fn is_missed(
+    rt: &HostRuntime,
+    library: &mut FolderLibrary<'_, HostRuntime>,
+    at: u32,
+) -> Result<bool, Fail> {
+    let begun = Instant::now(rt)?;
+    let is_fault = matches!(library.recipe(rt.alloc(), at), Err(LibraryFault::Failed));
+    Ok(is_fault && begun.elapsed(rt)?.as_millis() >= 200)
+}
+
 /// Whether recipes count that come after the first count, and not once they are taken away. One that goes away behind a count
 /// is a fault.
 fn sees_what_comes(
@@ -73,7 +85,7 @@ fn sees_what_comes(
     move_in(rt, "recipes-of-a-test/library/recipes/a.json", "first")?;
     let are_two = library.count(alloc) == Ok(2) && recipe_is(alloc, library, 0, "first");
     fs::remove_file(rt, "recipes-of-a-test/library/recipes/b.json")?;
-    let is_fault = matches!(library.recipe(alloc, 1), Err(LibraryFault::Failed));
+    let is_fault = is_missed(rt, library, 1)?;
     let is_left = library.count(alloc) == Ok(1) && recipe_is(alloc, library, 0, "first");
     Ok(is_empty && is_one && are_two && is_fault && is_left)
 }
