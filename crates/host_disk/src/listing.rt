@@ -1,5 +1,3 @@
-ghost use Rattle.std.specs.Prelude.{◌≤◌, length, IfOk};
-
 use crate::folders::{Mount, is_refused};
 use crate::names::is_entry;
 use crate::outside::Outside;

@@ -1,6 +1,4 @@
 //! Trying again what fails only for a while.
-ghost use Rattle.std.specs.Prelude.{◌≡◌};
-
 use std::io::{ErrorKind, Write};
 use std::time::{Clock, Duration};
 use std::{io, thread};
