@@ -10,9 +10,16 @@ fn calls(alloc: Global, numbers: &[u64]) -> Result<List<u64>, AllocError> {
     Ok(List::new(Vec::from_slice(alloc, numbers)?))
 }
 
-/// What is read of a source up to five bytes, by way of the bound.
-fn prefix<S: Source>(alloc: Global, source: &mut S) -> Result<Bytes, ReadFault> {
-    read_up_to(alloc, source, 5)
+/// Whether these bytes are read of a source up to five bytes, by way of the bound.
+fn reads<S: Source>(alloc: Global, source: &mut S, want: &[u8]) -> Result<bool, ReadFault> {
+    let bytes = read_up_to(alloc, source, 5)?;
+    Ok(bytes.as_slice() == want)
+}
+
+/// A source of seven bytes whose call 1, the second read, fails.
+fn seven(alloc: Global) -> Result<MemorySource, Fail> {
+    let failing = calls(alloc, &[1])?;
+    Ok(MemorySource::new(Bytes::from_slice(alloc, b"seven b")?, failing))
 }
 
 /// What is written to a sink, by way of the bound.
@@ -40,37 +47,79 @@ fn size(incoming: &Incoming) -> Option<usize> {
 }
 
 #[test]
-fn sources_and_sinks_pass_bytes_on(rt: HostRuntime) -> Result<(), Fail> {
+fn sources_pass_bytes_on(rt: HostRuntime) -> Result<(), Fail> {
     let alloc = rt.alloc();
-    let mut memory = MemorySource::new(Bytes::from_slice(alloc, b"seven b")?, calls(alloc, &[1])?);
-    assert!(rt; prefix(alloc, &mut memory)?.as_slice() == b"seven".as_slice());
-    assert!(rt; prefix(alloc, &mut memory).err() == Some(ReadFault::Edge));
-    assert!(rt; prefix(alloc, &mut memory)?.as_slice() == b" b".as_slice());
+    let mut memory = seven(alloc)?;
+    let told = [
+        reads(alloc, &mut memory, b"seven"),
+        reads(alloc, &mut memory, b""),
+        reads(alloc, &mut memory, b" b"),
+    ];
+    drop(memory);
+    assert_eq!(rt; told, [Ok(true), Err(ReadFault::Edge), Ok(true)]);
     let mut reader = ReadSource::new(b"seven b".as_slice());
-    assert!(rt; prefix(alloc, &mut reader)?.as_slice() == b"seven".as_slice());
+    assert_eq!(rt; reads(alloc, &mut reader, b"seven"), Ok(true));
+    Ok(())
+}
+
+#[test]
+fn sinks_pass_bytes_on(rt: HostRuntime) -> Result<(), Fail> {
+    let alloc = rt.alloc();
     let mut sink = MemorySink::new(alloc, calls(alloc, &[2])?);
-    assert!(rt; print(&mut sink).is_ok());
-    assert!(rt; print(&mut sink) == Err(EdgeFault));
-    assert!(rt; sink.bytes() == b"one two\n".as_slice());
+    let told = [print(&mut sink), print(&mut sink)];
+    let is_written = sink.bytes() == b"one two\n".as_slice();
+    drop(sink);
+    assert_eq!(rt; told, [Ok(()), Err(EdgeFault)]);
+    assert!(rt; is_written);
     let mut room = [0u8; 5];
     let mut writer = WriteSink::new(room.as_mut_slice());
     assert!(rt; print(&mut writer) == Err(EdgeFault));
     Ok(())
 }
 
-#[test]
-fn an_inbox_gives_each_document_until_it_is_done(rt: HostRuntime) -> Result<(), Fail> {
-    let alloc = rt.alloc();
+/// Of what kind the next answer of an inbox is, and how many bytes its document has.
+fn told<I: Inbox>(alloc: Global, inbox: &mut I) -> Result<(Kind, Option<usize>), InboxFault> {
+    let incoming = take(alloc, inbox)?;
+    Ok((incoming.kind(), size(&incoming)))
+}
+
+fn documents(alloc: Global) -> Result<List<Bytes>, Fail> {
     let mut documents = List::empty(alloc);
     documents.push(Bytes::from_slice(alloc, b"one")?)?;
     documents.push(Bytes::new(vec![in alloc; b' '; 524_300]?))?;
-    // Call 1, the first `done`, fails.
-    let mut inbox = MemoryInbox::new(documents, true, calls(alloc, &[1])?);
-    assert!(rt; take(alloc, &mut inbox).err() == Some(InboxFault::Failed));
-    assert!(rt; size(&take(alloc, &mut inbox)?) == Some(3));
-    assert!(rt; size(&take(alloc, &mut inbox)?) == Some(524_289));
-    assert!(rt; take(alloc, &mut inbox)?.kind() == Kind::Closed);
+    Ok(documents)
+}
+
+/// An inbox of two documents whose call 1, the first `done`, fails.
+fn inbox(alloc: Global) -> Result<MemoryInbox, Fail> {
+    let failing = calls(alloc, &[1])?;
+    Ok(MemoryInbox::new(documents(alloc)?, true, failing))
+}
+
+#[test]
+fn an_inbox_gives_each_document_until_it_is_done(rt: HostRuntime) -> Result<(), Fail> {
+    let alloc = rt.alloc();
+    let mut inbox = inbox(alloc)?;
+    let answers = [
+        told(alloc, &mut inbox),
+        told(alloc, &mut inbox),
+        told(alloc, &mut inbox),
+        told(alloc, &mut inbox),
+    ];
+    drop(inbox);
+    assert_eq!(rt; answers[0], Err(InboxFault::Failed));
+    assert_eq!(rt; answers[1], Ok((Kind::Document, Some(3))));
+    assert_eq!(rt; answers[2], Ok((Kind::Document, Some(524_289))));
+    assert_eq!(rt; answers[3], Ok((Kind::Closed, None)));
+    Ok(())
+}
+
+#[test]
+fn an_open_inbox_gives_nothing(rt: HostRuntime) -> Result<(), Fail> {
+    let alloc = rt.alloc();
     let mut open = MemoryInbox::new(List::empty(alloc), false, calls(alloc, &[])?);
-    assert!(rt; take(alloc, &mut open)?.kind() == Kind::Nothing);
+    let answer = told(alloc, &mut open);
+    drop(open);
+    assert_eq!(rt; answer, Ok((Kind::Nothing, None)));
     Ok(())
 }
