@@ -41,6 +41,7 @@ impl Device {
         ensures { DoesRecord (stored.Genesis origin) (device_view self.old) (device_view self.new) result }
     {
         if self.origin.is_some() || origin.root.len() > MOST_ROOT {
+            drop(origin);
             return Err(ApplyFault::NotLawful);
         }
         self.origin = Some(origin);

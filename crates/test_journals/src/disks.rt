@@ -1,5 +1,5 @@
 use disk_model::{Disk, DiskFault, FusedDisk, ListFault, MemoryDisk, Pick};
-use nuc_base::List;
+use nuc_base::{List, Text};
 use std::alloc::Global;
 use std::test::Fail;
 
@@ -52,68 +52,143 @@ fn stopped(alloc: Global, stop: u64, want: (&[u8], &[u8])) -> Result<bool, Fail>
     Ok(disk.disk().file(FILE) == want.0 && has(alloc, disk.disk(), Pick::Old, want.1)?)
 }
 
+/// A call, what is read after it, what is left where all that is not stable is lost, and where it is filled.
+type Row = (Act, &'static [u8], &'static [u8], &'static [u8]);
+
+const ROWS: [Row; 9] = [
+    (Act::Write(0, b"abcd"), b"abcd", b"", b"####"),
+    (Act::Sync, b"abcd", b"abcd", b"abcd"),
+    (Act::Write(2, b"XYZ"), b"abXYZ", b"abcd", b"ab###"),
+    (Act::Cut(1), b"a", b"abcd", b"ab###"),
+    (Act::Write(1, b"q"), b"aq", b"abcd", b"a####"),
+    (Act::Remove, b"", b"abcd", b"a####"),
+    (Act::Write(0, b"z"), b"z", b"abcd", b"#####"),
+    (Act::Sync, b"z", b"z", b"z"),
+    (Act::Cut(0), b"", b"z", b"z"),
+];
+
+/// Whether this is read, and what is left where all that is not stable is there, is lost and is filled.
+fn shows(
+    alloc: Global,
+    disk: &MemoryDisk,
+    new: &[u8],
+    old: &[u8],
+    filled: &[u8],
+) -> Result<bool, Fail> {
+    Ok(
+        disk.file(FILE) == new
+            && has(alloc, disk, Pick::New, new)?
+            && has(alloc, disk, Pick::Old, old)?
+            && has(alloc, disk, Pick::Fill(b'#'), filled)?,
+    )
+}
+
+/// Whether the disk holds after a row's call what the row says.
+fn holds(alloc: Global, disk: &mut MemoryDisk, row: Row) -> Result<bool, Fail> {
+    let (step, new, old, filled) = row;
+    make(disk, step)?;
+    shows(alloc, disk, new, old, filled)
+}
+
+/// How many of the rows hold, one after another.
+fn held(alloc: Global, disk: &mut MemoryDisk, rows: &[Row]) -> Result<usize, Fail> {
+    let mut many = 0;
+    for row in rows {
+        if !holds(alloc, disk, *row)? {
+            return Ok(many);
+        }
+        many = many.saturating_add(1);
+    }
+    Ok(many)
+}
+
 #[test]
 fn a_crash_leaves_what_the_calls_allow(rt: HostRuntime) -> Result<(), Fail> {
-    let alloc = rt.alloc();
-    let mut disk = MemoryDisk::new(alloc);
-    // What is read after each call, what is left where all that is not stable is lost, and where it is filled.
-    let rows: [(Act, &[u8], &[u8], &[u8]); 9] = [
-        (Act::Write(0, b"abcd"), b"abcd", b"", b"####"),
-        (Act::Sync, b"abcd", b"abcd", b"abcd"),
-        (Act::Write(2, b"XYZ"), b"abXYZ", b"abcd", b"ab###"),
-        (Act::Cut(1), b"a", b"abcd", b"ab###"),
-        (Act::Write(1, b"q"), b"aq", b"abcd", b"a####"),
-        (Act::Remove, b"", b"abcd", b"a####"),
-        (Act::Write(0, b"z"), b"z", b"abcd", b"#####"),
-        (Act::Sync, b"z", b"z", b"z"),
-        (Act::Cut(0), b"", b"z", b"z"),
-    ];
-    for (step, new, old, filled) in rows {
-        make(&mut disk, step)?;
-        assert!(rt; disk.file(FILE) == new, "read {new:?}");
-        assert!(rt; has(alloc, &disk, Pick::New, new)?, "kept {new:?}");
-        assert!(rt; has(alloc, &disk, Pick::Old, old)?, "lost {new:?}");
+    let mut disk = MemoryDisk::new(rt.alloc());
+    let many = held(rt.alloc(), &mut disk, &ROWS);
+    drop(disk);
+    assert_eq!(rt; many?, 9, "rows that hold, one after another");
+    Ok(())
+}
+
+/// What is read at the end of a run that stops after as many calls as the place of the row, and what is stable.
+const STOPS: [(&'static [u8], &'static [u8]); 9] = [
+    (b"", b""),
+    (b"ab", b""),
+    (b"abcd", b""),
+    (b"abcd", b"abcd"),
+    (b"abcdef", b"abcd"),
+    (b"abcdefgh", b"abcd"),
+    (b"abcde", b"abcd"),
+    (b"a", b"abcd"),
+    (b"", b"abcd"),
+];
+
+#[test]
+fn a_stopped_disk_holds(rt: HostRuntime) -> Result<(), Fail> {
+    for (stop, want) in STOPS.iter().enumerate() {
         assert!(rt;
-            has(alloc, &disk, Pick::Fill(b'#'), filled)?,
-            "filled {new:?}"
+            stopped(rt.alloc(), stop as u64, *want)?,
+            "stopped after {stop}"
         );
     }
-    let stops: [(&[u8], &[u8]); 9] = [
-        (b"", b""),
-        (b"ab", b""),
-        (b"abcd", b""),
-        (b"abcd", b"abcd"),
-        (b"abcdef", b"abcd"),
-        (b"abcdefgh", b"abcd"),
-        (b"abcde", b"abcd"),
-        (b"a", b"abcd"),
-        (b"", b"abcd"),
-    ];
-    for (stop, want) in stops.into_iter().enumerate() {
-        assert!(rt; stopped(alloc, stop as u64, want)?, "stopped after {stop}");
-    }
     Ok(())
+}
+
+/// Whether the names are those of the two files.
+fn are_two(names: &[Text]) -> bool {
+    match names {
+        [first, second] => first.as_str() == "packages/artifacts/a"
+            && second.as_str() == "packages/artifacts/b",
+        _ => false,
+    }
+}
+
+/// Makes the files.
+fn fill<D: Disk>(disk: &mut D) -> Result<(), DiskFault> {
+    put(disk, "packages/artifacts/b", b"2")?;
+    put(disk, "packages/artifacts/a", b"1")?;
+    put(disk, "packages/artifact", b"3")?;
+    put(disk, "packages/artifacts/c", b"")
+}
+
+fn put<D: Disk>(disk: &mut D, file: &str, bytes: &[u8]) -> Result<(), DiskFault> {
+    disk.write_at(file, 0, bytes)
+}
+
+/// Whether the first listing fails and the second tells the two.
+fn lists<D: Disk>(alloc: Global, disk: &mut D) -> Result<bool, ListFault> {
+    if !fails(alloc, disk) {
+        return Ok(false);
+    }
+    let names = disk.list(alloc)?;
+    Ok(are_two(names.as_slice()))
+}
+
+fn fails<D: Disk>(alloc: Global, disk: &mut D) -> bool {
+    disk.list(alloc).err() == Some(ListFault::Disk)
+}
+
+/// Whether one byte is read and then none.
+fn reads<D: Disk>(disk: &mut D) -> Result<bool, DiskFault> {
+    let mut first = [0; 4];
+    let read = disk.read("packages/artifacts/a", 0, &mut first)?;
+    Ok(read == 1 && first[0] == b'1' && disk.read("packages/artifacts/a", 0, &mut first).is_err())
+}
+
+/// Whether all of it is so.
+fn tells(alloc: Global, disk: &mut FusedDisk) -> Result<bool, Fail> {
+    fill(disk)?;
+    Ok(lists(alloc, disk)? && reads(disk)?)
 }
 
 #[test]
 fn the_artifacts_are_listed(rt: HostRuntime) -> Result<(), Fail> {
     let alloc = rt.alloc();
-    let mut disk = FusedDisk::new(
-        MemoryDisk::new(alloc),
-        7,
-        List::new(Vec::from_array(alloc, [4])?),
-    );
-    disk.write_at("packages/artifacts/b", 0, b"2")?;
-    disk.write_at("packages/artifacts/a", 0, b"1")?;
-    disk.write_at("packages/artifact", 0, b"3")?;
-    disk.write_at("packages/artifacts/c", 0, b"")?;
-    assert!(rt; disk.list(alloc).err() == Some(ListFault::Disk));
-    let names = disk.list(alloc)?;
-    assert!(rt; names.len() == 2);
-    assert!(rt; names.as_slice()[0].as_str() == "packages/artifacts/a");
-    assert!(rt; names.as_slice()[1].as_str() == "packages/artifacts/b");
-    let mut first = [0; 4];
-    assert!(rt; disk.read("packages/artifacts/a", 0, &mut first)? == 1 && first[0] == b'1');
-    assert!(rt; disk.read("packages/artifacts/a", 0, &mut first).is_err());
+    let stops = List::new(Vec::from_array(alloc, [4])?);
+    let mut disk = FusedDisk::new(MemoryDisk::new(alloc), 7, stops);
+    let told = tells(alloc, &mut disk);
+    drop(disk);
+    assert!(rt; told?);
     Ok(())
 }

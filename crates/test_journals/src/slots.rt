@@ -25,10 +25,14 @@ const ONE: [u8; 48] = [
     0x05, 0x6c, 0x69, 0x6e, 0x75, 0x78, 0x00, 0x00, 0x00, 0x05, 0x61, 0x6d, 0x64, 0x36, 0x34, 0x00,
 ];
 
-/// An entry that begins a turn with this number, and a closed gate.
-fn turned(number: u8) -> [u8; 15] {
-    [1, 0, 0, 0, 9, 0x19, 0, 0, 0, 0, 0, 0, 0, number, 0]
-}
+// Entries that begin a turn with a number, each with a closed gate.
+const TURNED_0: [u8; 15] = [1, 0, 0, 0, 9, 0x19, 0, 0, 0, 0, 0, 0, 0, 0, 0];
+
+const TURNED_1: [u8; 15] = [1, 0, 0, 0, 9, 0x19, 0, 0, 0, 0, 0, 0, 0, 1, 0];
+
+const TURNED_2: [u8; 15] = [1, 0, 0, 0, 9, 0x19, 0, 0, 0, 0, 0, 0, 0, 2, 0];
+
+const TURNED_3: [u8; 15] = [1, 0, 0, 0, 9, 0x19, 0, 0, 0, 0, 0, 0, 0, 3, 0];
 
 /// What a journal finds over the disk.
 fn found<J: Journal + Drop, D: Disk>(disk: &mut D) -> Found {
@@ -39,103 +43,114 @@ fn found<J: Journal + Drop, D: Disk>(disk: &mut D) -> Found {
     }
 }
 
+/// Makes these slots.
+fn put_slots(disk: &mut MemoryDisk, first: &[u8], other: &[u8]) -> Result<(), DiskFault> {
+    disk.write_at("journal", 0, first)?;
+    disk.write_at("journal.b", 0, other)
+}
+
 /// What is found over these slots, by a log and by two slots.
 fn found_in(alloc: Global, first: &[u8], other: &[u8]) -> Result<(Found, Found), Fail> {
     let mut disk = MemoryDisk::new(alloc);
-    disk.write_at("journal", 0, first)?;
-    disk.write_at("journal.b", 0, other)?;
-    Ok((
-        found::<Log, MemoryDisk>(&mut disk),
-        found::<Slots, MemoryDisk>(&mut disk),
-    ))
+    let put = put_slots(&mut disk, first, other);
+    let by_log = found::<Log, MemoryDisk>(&mut disk);
+    let by_slots = found::<Slots, MemoryDisk>(&mut disk);
+    drop(disk);
+    put?;
+    Ok((by_log, by_slots))
 }
+
+/// What stands in the one file, and what is found by a log and by two slots.
+const FINDS: [(&'static str, &'static [u8], Found); 8] = [
+    ("one byte", &[0x07], NONE),
+    ("a whole one", &ONE, Ok((0, 47))),
+    ("a closed start", &[0, 0, 0, 0, 2, 0x11, 7, 0], NONE),
+    (
+        "an open start of another value",
+        &[0xff, 0, 0, 0, 2, 0x11, 7, 0],
+        Ok((0, 7)),
+    ),
+    ("a length of 0", &[1, 0, 0, 0, 0, 0x11, 7, 0], BAD),
+    ("a length of 33,554,433", &[1, 2, 0, 0, 1, 0x11, 7, 0], BAD),
+    (
+        "bytes behind the closed gate",
+        &[1, 0, 0, 0, 1, 0x11, 0, 9, 9],
+        Ok((0, 6)),
+    ),
+    (
+        "an entry that is cut behind a whole one",
+        &[1, 0, 0, 0, 3, 0x11, 7, 7, 1, 0, 0, 0, 9],
+        Err(FindFault::Damaged(8)),
+    ),
+];
 
 #[test]
 fn a_journal_is_found_by_both(rt: HostRuntime) -> Result<(), Fail> {
-    let alloc = rt.alloc();
-    let cut = Err(FindFault::Damaged(8));
-    for (name, bytes, answer) in [
-        ("one byte", &[0x07][..], NONE),
-        ("a whole one", &ONE[..], Ok((0, 47))),
-        ("its last byte is missing", &ONE[..47], BAD),
-        ("a closed start", &[0, 0, 0, 0, 2, 0x11, 7, 0][..], NONE),
-        (
-            "an open start of another value",
-            &[0xff, 0, 0, 0, 2, 0x11, 7, 0][..],
-            Ok((0, 7)),
-        ),
-        ("a length of 0", &[1, 0, 0, 0, 0, 0x11, 7, 0][..], BAD),
-        (
-            "a length of 33,554,433",
-            &[1, 2, 0, 0, 1, 0x11, 7, 0][..],
-            BAD,
-        ),
-        (
-            "bytes behind the closed gate",
-            &[1, 0, 0, 0, 1, 0x11, 0, 9, 9][..],
-            Ok((0, 6)),
-        ),
-        (
-            "an entry that is cut behind a whole one",
-            &[1, 0, 0, 0, 3, 0x11, 7, 7, 1, 0, 0, 0, 9][..],
-            cut,
-        ),
-    ] {
-        let both = found_in(alloc, bytes, &[])?;
-        assert!(rt; both == (answer, answer), "{name}");
+    for (name, bytes, answer) in &FINDS {
+        let both = found_in(rt.alloc(), bytes, &[])?;
+        assert_eq!(rt; both, (*answer, *answer), "{name}");
     }
+    let both = found_in(rt.alloc(), &ONE[..47], &[])?;
+    assert_eq!(rt; both, (BAD, BAD), "its last byte is missing");
     Ok(())
 }
 
+/// What stands in the two slots, and what is found by two slots.
+const SLOTS: [(&'static str, &'static [u8], &'static [u8], Found); 17] = [
+    ("both empty", &[], &[], NONE),
+    ("one byte, and a closed start", &[7], &[0, 1, 0], NONE),
+    ("the first alone", &GENESIS, &[], Ok((0, 7))),
+    ("the other alone", &[], &TURNED_1, Ok((1, 14))),
+    ("both, the second live", &GENESIS, &TURNED_1, Ok((1, 14))),
+    ("both, the first live", &TURNED_2, &TURNED_1, Ok((2, 14))),
+    ("an odd number in the first slot", &TURNED_1, &[], BAD),
+    ("an even one in the second", &[], &TURNED_2, BAD),
+    ("a turn's number 0", &TURNED_0, &[], BAD),
+    ("a store's beginning in the second slot", &[], &GENESIS, BAD),
+    ("neither beginning", &[1, 0, 0, 0, 2, 0x12, 7, 0], &[], BAD),
+    (
+        "neither beginning beside a live slot",
+        &GENESIS,
+        &[1, 0, 0, 0, 2, 0x12, 7, 0],
+        BAD,
+    ),
+    (
+        "a number that is cut",
+        &GENESIS,
+        &[1, 0, 0, 0, 8, 0x19, 0, 0, 0, 0, 0, 0, 1, 0],
+        BAD,
+    ),
+    (
+        "a cut payload in the other slot",
+        &GENESIS,
+        &[1, 0, 0, 0, 9, 0x19, 0, 0, 0, 0, 0, 0, 0],
+        BAD,
+    ),
+    (
+        "no gate behind, live",
+        &GENESIS,
+        &[1, 0, 0, 0, 9, 0x19, 0, 0, 0, 0, 0, 0, 0, 1],
+        BAD,
+    ),
+    (
+        "no gate behind, not live",
+        &TURNED_2,
+        &[1, 0, 0, 0, 9, 0x19, 0, 0, 0, 0, 0, 0, 0, 1],
+        Ok((2, 14)),
+    ),
+    (
+        "a start cut short behind a closed gate",
+        &GENESIS,
+        &[0, 0, 0, 0, 9, 0x19, 0],
+        Ok((0, 7)),
+    ),
+];
+
 #[test]
 fn the_live_slot_is_found(rt: HostRuntime) -> Result<(), Fail> {
-    let alloc = rt.alloc();
-    for (name, first, other, answer) in [
-        ("both empty", &[][..], &[][..], NONE),
-        ("one byte, and a closed start", &[7], &[0, 1, 0], NONE),
-        ("the first alone", &GENESIS, &[], Ok((0, 7))),
-        ("the other alone", &[], &turned(1), Ok((1, 14))),
-        ("both, the second live", &GENESIS, &turned(1), Ok((1, 14))),
-        ("both, the first live", &turned(2), &turned(1), Ok((2, 14))),
-        ("an odd number in the first slot", &turned(1), &[], BAD),
-        ("an even one in the second", &[], &turned(2), BAD),
-        ("a turn's number 0", &turned(0), &[], BAD),
-        ("a store's beginning in the second slot", &[], &GENESIS, BAD),
-        ("neither beginning", &[1, 0, 0, 0, 2, 0x12, 7, 0], &[], BAD),
-        (
-            "neither beginning beside a live slot",
-            &GENESIS,
-            &[1, 0, 0, 0, 2, 0x12, 7, 0],
-            BAD,
-        ),
-        (
-            "a number that is cut",
-            &GENESIS,
-            &[1, 0, 0, 0, 8, 0x19, 0, 0, 0, 0, 0, 0, 1, 0],
-            BAD,
-        ),
-        (
-            "a cut payload in the other slot",
-            &GENESIS,
-            &turned(1)[..13],
-            BAD,
-        ),
-        ("no gate behind, live", &GENESIS, &turned(1)[..14], BAD),
-        (
-            "no gate behind, not live",
-            &turned(2),
-            &turned(1)[..14],
-            Ok((2, 14)),
-        ),
-        (
-            "a start cut short behind a closed gate",
-            &GENESIS,
-            &[0, 0, 0, 0, 9, 0x19, 0],
-            Ok((0, 7)),
-        ),
-    ] {
-        let both = found_in(alloc, first, other)?;
-        assert!(rt; both.1 == answer, "{name}");
+    for (name, first, other, answer) in &SLOTS {
+        let (_, by_slots) = found_in(rt.alloc(), first, other)?;
+        assert_eq!(rt; by_slots, *answer, "{name}");
     }
     Ok(())
 }
@@ -158,21 +173,18 @@ fn turn<D: Disk>(disk: &mut D) -> Result<(), FindFault> {
     Ok(slots.end_turn(disk)?)
 }
 
-/// These slots, stable, on a disk that stops after so many calls, and what a turn there answers.
-fn stopped(
-    alloc: Global,
-    first: &[u8],
-    other: &[u8],
-    stop: u64,
-) -> Result<(FusedDisk, Result<(), FindFault>), Fail> {
-    let mut disk = MemoryDisk::new(alloc);
-    disk.write_at("journal", 0, first)?;
-    disk.write_at("journal.b", 0, other)?;
+/// Makes these slots, and makes them stable.
+fn put_stable(disk: &mut MemoryDisk, first: &[u8], other: &[u8]) -> Result<(), DiskFault> {
+    put_slots(disk, first, other)?;
     disk.sync("journal")?;
-    disk.sync("journal.b")?;
-    let mut fused = FusedDisk::new(disk, stop, List::empty(alloc));
-    let done = turn(&mut fused);
-    Ok((fused, done))
+    disk.sync("journal.b")
+}
+
+/// These slots, stable, on a disk that stops after so many calls.
+fn stopped(alloc: Global, first: &[u8], other: &[u8], stop: u64) -> Result<FusedDisk, Fail> {
+    let mut disk = MemoryDisk::new(alloc);
+    put_stable(&mut disk, first, other)?;
+    Ok(FusedDisk::new(disk, stop, List::empty(alloc)))
 }
 
 /// Whether this is found by two slots over the image that is picked.
@@ -181,32 +193,70 @@ fn leaves(alloc: Global, disk: &FusedDisk, pick: Pick, wanted: Found) -> Result<
     Ok(found::<Slots, MemoryDisk>(&mut image) == wanted)
 }
 
+/// Slots, what is found before and after a turn, and how many calls the whole turn makes.
+type Turn = (&'static [u8], &'static [u8], Found, Found, u64);
+
+const TURNS: [Turn; 4] = [
+    (&ONE, &[], Ok((0, 47)), Ok((1, 20)), 22),
+    (&TURNED_2, &TURNED_1, Ok((2, 14)), Ok((3, 20)), 22),
+    (&TURNED_2, &TURNED_3, Ok((3, 14)), Ok((4, 20)), 22),
+    (
+        &ONE,
+        &[0, 0, 0, 0, 9, 0x19, 0, 0, 0, 0, 0, 0, 0, 1, 9, 9, 9],
+        Ok((0, 47)),
+        Ok((1, 20)),
+        20,
+    ),
+];
+
+/// The first image over which something else is found, if any.
+fn wrong_image(
+    alloc: Global,
+    disk: &FusedDisk,
+    lost: Found,
+    kept: Found,
+) -> Result<Option<Pick>, Fail> {
+    for (pick, wanted) in [
+        (Pick::Old, lost),
+        (Pick::New, kept),
+        (Pick::Fill(0x01), kept),
+        (Pick::Fill(0xff), kept),
+    ] {
+        if !leaves(alloc, disk, pick, wanted)? {
+            return Ok(Some(pick));
+        }
+    }
+    Ok(None)
+}
+
+/// What a turn answers on a disk that stops after so many calls, and the first image over which something else is found, if any.
+fn told_after(
+    alloc: Global,
+    row: Turn,
+    stop: u64,
+) -> Result<(Result<(), FindFault>, Option<Pick>), Fail> {
+    let (first, other, before, after, calls) = row;
+    // The last write opens the first gate, and the last sync makes that stable.
+    let lost = if stop < calls { before } else { after };
+    let kept = if stop.saturating_add(1) < calls {
+        before
+    } else {
+        after
+    };
+    let mut disk = stopped(alloc, first, other, stop)?;
+    let done = turn(&mut disk);
+    let wrong = wrong_image(alloc, &disk, lost, kept);
+    drop(disk);
+    Ok((done, wrong?))
+}
+
 #[test]
 fn a_turn_is_whole_or_not_there(rt: HostRuntime) -> Result<(), Fail> {
-    let alloc = rt.alloc();
-    // The slots, what is found before and after, and how many calls the whole turn makes.
-    for (first, other, before, after, calls) in [
-        (&ONE[..], &[][..], Ok((0, 47)), Ok((1, 20)), 22u64),
-        (&turned(2), &turned(1), Ok((2, 14)), Ok((3, 20)), 22),
-        (&turned(2), &turned(3), Ok((3, 14)), Ok((4, 20)), 22),
-        (
-            &ONE,
-            &[0, 0, 0, 0, 9, 0x19, 0, 0, 0, 0, 0, 0, 0, 1, 9, 9, 9],
-            Ok((0, 47)),
-            Ok((1, 20)),
-            20,
-        ),
-    ] {
+    for row in &TURNS {
         for stop in 0..23u64 {
-            let (disk, done) = stopped(alloc, first, other, stop)?;
-            assert!(rt; done.is_ok() == (stop >= calls), "answer after {stop}");
-            // The last write opens the first gate, and the last sync makes that stable.
-            let lost = if stop < calls { before } else { after };
-            let kept = if stop + 1 < calls { before } else { after };
-            assert!(rt; leaves(alloc, &disk, Pick::Old, lost)?, "lost after {stop}");
-            for pick in [Pick::New, Pick::Fill(0x01), Pick::Fill(0xff)] {
-                assert!(rt; leaves(alloc, &disk, pick, kept)?, "{pick:?} after {stop}");
-            }
+            let (done, wrong) = told_after(rt.alloc(), *row, stop)?;
+            assert_eq!(rt; done.is_ok(), stop >= row.4, "answer after {stop}");
+            assert_eq!(rt; wrong, None, "image after {stop}");
         }
     }
     Ok(())
@@ -221,26 +271,23 @@ fn add<J: Journal + Drop, D: Disk>(disk: &mut D) -> Result<u64, FindFault> {
     }
 }
 
+/// What is told in turn where a log adds, two slots find and add, and a log finds.
+fn goes_over<D: Disk>(
+    disk: &mut D,
+) -> (Result<u64, FindFault>, Found, Result<u64, FindFault>, Found) {
+    let by_log = add::<Log, D>(disk);
+    let found_by_slots = found::<Slots, D>(disk);
+    let by_slots = add::<Slots, D>(disk);
+    (by_log, found_by_slots, by_slots, found::<Log, D>(disk))
+}
+
 #[test]
 fn a_store_of_a_log_opens_as_two_slots(rt: HostRuntime) -> Result<(), Fail> {
-    let alloc = rt.alloc();
-    let mut disk = MemoryDisk::new(alloc);
-    disk.write_at("journal", 0, &ONE)?;
-    assert!(rt;
-        add::<Log, MemoryDisk>(&mut disk) == Ok(57),
-        "added by a log"
-    );
-    assert!(rt;
-        found::<Slots, MemoryDisk>(&mut disk) == Ok((0, 57)),
-        "found by two slots"
-    );
-    assert!(rt;
-        add::<Slots, MemoryDisk>(&mut disk) == Ok(67),
-        "added by two slots"
-    );
-    assert!(rt;
-        found::<Log, MemoryDisk>(&mut disk) == Ok((0, 67)),
-        "found by a log"
-    );
+    let mut disk = MemoryDisk::new(rt.alloc());
+    let put = disk.write_at("journal", 0, &ONE);
+    let told = goes_over(&mut disk);
+    drop(disk);
+    put?;
+    assert_eq!(rt; told, (Ok(57), Ok((0, 57)), Ok(67), Ok((0, 67))));
     Ok(())
 }
