@@ -18,14 +18,14 @@ pub enum ResolveFault {
 }
 
 /// The preferred valid set of the candidates for what is wanted, as places in their list, rising. `NoVersion` comes exactly
-/// where no set is valid, and `NoMemory` where memory was refused.
+/// where no set is valid, and `NoMemory` where memory was refused or the search used up what it allows itself.
 ///
 /// A set has one version of a name at most, meets each wanted range and each range that a member depends on, softly or hard,
 /// has nothing that is not needed, and has no cycle of dependencies. The preferred one takes again and again the least
 /// required name, in byte order, and has its greatest version that leads to an end.
 ///
-/// Where no version is refused, the time is that of what is wanted and of the dependencies of the chosen candidates, times
-/// the logarithm of the candidates. It may grow exponentially with the names that clash.
+/// The time grows with what is wanted and with the dependencies of the candidates that can be reached. Where names clash it may
+/// grow exponentially, up to what the search allows itself.
 pub fn resolve(
     alloc: Global,
     candidates: &Candidates,

@@ -5,8 +5,16 @@
 #![tactic(auto)]
 
 #[cfg(test)]
+mod draw;
+#[cfg(test)]
+mod drawn;
+#[cfg(test)]
+mod families;
+#[cfg(test)]
 mod libraries;
 #[cfg(test)]
 mod plain;
 #[cfg(test)]
 mod slow;
+#[cfg(test)]
+mod valid;

@@ -3,6 +3,7 @@ pub mod Each
 pub mod Ends
 pub mod Finding
 pub mod Firsts
+pub mod Fronting
 pub mod Gathering
 pub mod Joining
 pub mod Leaves

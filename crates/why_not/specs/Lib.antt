@@ -3,6 +3,7 @@ pub mod Counted
 pub mod Edges
 pub mod Ends
 pub mod Found
+pub mod Fronts
 pub mod Gathers
 pub mod Laws
 pub mod Picks

@@ -1,17 +1,18 @@
 //! Which open name is split next.
 
-ghost use Rattle.std.specs.Prelude.{◌≡◌, ◌↔◌, ◌∷◌, ◌++◌, [], ◌<◌, ◌^◌, ℕ, List, length, map, IsTrue, IsFalse};
+ghost use Rattle.std.specs.Prelude.{◌≡◌, ◌↔◌, ◌∷◌, ◌++◌, [], ◌<◌, ◌^◌, ℕ, List, Some, length, IsTrue, IsFalse};
 ghost use Rattle.std.specs.Ordering.{nat_cmp};
 ghost use Rattle.std.specs.Cmp.Lexicographic.{slice_cmp};
 ghost use Rattle.std.specs.declared.cmp.Ordering.TheVariants.{Less};
-ghost use Rattle.recipe_reader.specs.Members.{members, need};
-ghost use Rattle.recipe_reader.specs.Sets.{asked, required_names, IsUpTo};
+ghost use Rattle.recipe_reader.specs.Members.{Need, Member, members};
+ghost use Rattle.recipe_reader.specs.Sets.{required_names, IsTaken, IsUpTo};
+ghost use Rattle.why_not.specs.Fronts.{listed, IsFront};
 ghost use Rattle.why_not.specs.Picks.{IsPick};
 
-use crate::facts::{is_named, needs_at, taken_of, wanted_against};
-use crate::reasons::first_against;
+use crate::facts::is_named;
+use crate::front::Front;
 use nuc_base::Name;
-use recipe_reader::{Candidate, Dependency, Wanted};
+use recipe_reader::Candidate;
 use std::cmp::Ordering;
 
 /// How a certificate is built.
@@ -31,32 +32,24 @@ pub(crate) struct Pick<'a> {
     pub(crate) live: usize,
 }
 
-/// No wanted range and no range of a taken place refuses the place.
-fn is_live(candidates: &[Candidate], wanted: &[Wanted], taken: &[u32], place: u32) -> bool {
-    !wanted_against(candidates, wanted, place) && first_against(candidates, taken, place).is_none()
-}
-
-/// How many candidates of the name nothing refuses.
-fn live_count(candidates: &[Candidate], wanted: &[Wanted], taken: &[u32], name: &Name) -> usize
+/// How many candidates of the name are not refused. They stand one after another.
+fn live_count(candidates: &[Candidate], refused: &[bool], name: &Name) -> usize
     requires count { length candidates.now < 2 ^ 32 }
 {
+    let start = candidates.partition_point(|c: &Candidate| -> bool { is_before(&c.recipe.name, name) });
     let mut count = 0;
-    for i in 0..candidates.len() {
-        let place = i as u32;
-        if is_named(candidates, place, name) && is_live(candidates, wanted, taken, place) {
+    for i in start..candidates.len() {
+        if !is_named(candidates, i as u32, name) {
+            return count;
+        }
+        if !refused.get(i).copied().unwrap_or(false) {
             count += 1;
         }
     }
     count
 }
 
-fn pick_of<'a>(
-    candidates: &[Candidate],
-    wanted: &[Wanted],
-    form: Form,
-    taken: &[u32],
-    name: &'a Name,
-) -> Pick<'a>
+fn pick_of<'a>(candidates: &[Candidate], form: Form, refused: &[bool], name: &'a Name) -> Pick<'a>
     requires count { length candidates.now < 2 ^ 32 }
     ensures name { result.name.now ≡ name.now }
     ensures uncounted { form ≡ Form.Plain → result.live ≡ 0 }
@@ -65,7 +58,7 @@ fn pick_of<'a>(
         Form::Plain => Pick { name, live: 0 },
         Form::Small => Pick {
             name,
-            live: live_count(candidates, wanted, taken, name),
+            live: live_count(candidates, refused, name),
         },
     }
 }
@@ -88,89 +81,35 @@ fn comes_before(pick: &Pick, other: &Pick) -> bool
     }
 }
 
-/// With one name more.
-fn better<'a>(
-    candidates: &[Candidate],
-    wanted: &[Wanted],
-    form: Form,
-    taken: &[u32],
-    best: Option<Pick<'a>>,
-    name: &'a Name,
-) -> Option<Pick<'a>>
-    requires count { length candidates.now < 2 ^ 32 }
-    ensures { (names : List (List ℕ)) → IsPick (members candidates.now) form taken.now names best.entry
-        → IsPick (members candidates.now) form taken.now (names ++ name.now ∷ []) result }
+/// With one name more, of which no place is taken.
+fn better<'a>(best: Option<Pick<'a>>, pick: Pick<'a>) -> Pick<'a>
+    ensures { (ms : List Member) (form : Form) (taken : List ℕ) (names : List (List ℕ)) → (IsTaken ms taken pick.entry.name.now → ⊥)
+        → (form ≡ Form.Plain → pick.entry.live ≡ 0) → IsPick ms form taken names best.entry
+        → IsPick ms form taken (names ++ pick.entry.name.now ∷ []) (Some result) }
 {
-    if let Some(_place) = taken_of(candidates, taken, name) {
-        return best;
-    }
-    let pick = pick_of(candidates, wanted, form, taken, name);
     let Some(other) = best else {
-        return Some(pick);
+        return pick;
     };
     if comes_before(&pick, &other) {
-        return Some(pick);
+        return pick;
     }
-    Some(other)
+    other
 }
 
-/// The best of the names that are wanted.
-fn best_wanted<'a>(
+/// The open name that is split next.
+pub(crate) fn next_name<'a>(
     candidates: &[Candidate],
-    wanted: &'a [Wanted],
     form: Form,
-    taken: &[u32],
+    front: &Front<'a>,
 ) -> Option<Pick<'a>>
     requires count { length candidates.now < 2 ^ 32 }
-    ensures { IsPick (members candidates.now) form taken.now (map (λ w. w.name) (asked wanted.now)) result }
+    ensures { (wanted : List Need) (taken : List ℕ) → IsFront (members candidates.now) wanted taken (listed front.now.names.items)
+        → IsPick (members candidates.now) form taken (required_names (members candidates.now) wanted taken) result }
 {
     let mut best = None;
-    for one in wanted {
-        best = better(candidates, wanted, form, taken, best, &one.name);
-    }
-    best
-}
-
-/// With the names of more needs.
-fn best_needed<'a>(
-    candidates: &[Candidate],
-    wanted: &[Wanted],
-    form: Form,
-    taken: &[u32],
-    best: Option<Pick<'a>>,
-    needs: &'a [Dependency],
-) -> Option<Pick<'a>>
-    requires count { length candidates.now < 2 ^ 32 }
-    ensures { (names : List (List ℕ)) → IsPick (members candidates.now) form taken.now names best.entry
-        → IsPick (members candidates.now) form taken.now (names ++ map (λ d. d.name) (map need needs.now)) result }
-{
-    let mut best = best;
-    for one in needs {
-        best = better(candidates, wanted, form, taken, best, &one.name);
-    }
-    best
-}
-
-/// The required name that is split next, of which no place is taken.
-pub(crate) fn next_name<'a>(
-    candidates: &'a [Candidate],
-    wanted: &'a [Wanted],
-    form: Form,
-    taken: &[u32],
-) -> Option<Pick<'a>>
-    requires count { length candidates.now < 2 ^ 32 }
-    ensures { IsPick (members candidates.now) form taken.now (required_names (members candidates.now) (asked wanted.now) taken.now) result }
-{
-    let mut best = best_wanted(candidates, wanted, form, taken);
-    for place in taken {
-        best = best_needed(
-            candidates,
-            wanted,
-            form,
-            taken,
-            best,
-            needs_at(candidates, *place),
-        );
+    for name in front.names.iter() {
+        let pick = pick_of(candidates, form, front.refused.as_slice(), name);
+        best = Some(better(best, pick));
     }
     best
 }

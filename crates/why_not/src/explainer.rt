@@ -9,7 +9,9 @@ ghost use Rattle.why_not.specs.Found.{IsExplained, HasUpTo};
 
 use crate::choosing::Form;
 use crate::explaining::{Found, explained};
+use crate::front::Front;
 use crate::why::Why;
+use conflict_search::{SearchFault, search};
 use nuc_base::{List, NoMemory};
 use recipe_reader::{Candidate, Candidates, Wanted};
 use std::alloc::Global;
@@ -32,9 +34,10 @@ fn from_none(
     ensures found { IfOk result (IsExplained (members candidates.now) (asked wanted.now) form nodes) }
     ensures small { IfOk result (HasUpTo nodes) }
 {
+    let front = Front::new(alloc, candidates, wanted, form)?;
     let mut taken = Vec::new(alloc);
     let mut left = nodes;
-    let found = explained(alloc, candidates, wanted, form, &mut taken, &mut left)?;
+    let found = explained(alloc, candidates, wanted, form, &mut taken, &front, &mut left)?;
     Ok(found)
 }
 
@@ -66,8 +69,9 @@ fn by_forms(
 ///
 /// The certificate is the plain one where that has at most 1,024 nodes: a split at the least required name that is not
 /// decided, and each leaf the first reason. Else it is a small one: a split at the required name with the fewest versions
-/// that nothing refuses yet, and none where a branch stands without it. `NoMemory` comes where memory was refused, and where
-/// more than 65,536 nodes were made for the small one.
+/// that nothing refuses yet, and none where a branch stands without it. Whether a set is valid is asked of the search for one
+/// first. `NoMemory` comes where memory was refused, where that search gives up, and where more than 65,536 nodes were made
+/// for the small one.
 pub fn explain(
     alloc: Global,
     candidates: &Candidates,
@@ -78,6 +82,13 @@ pub fn explain(
         (λ why. IsExplanation (members candidates.now) (asked wanted.now) (seen why))) }
     ensures none { IfOk result (λ found. IfSome found (λ _. HasNoSet (members candidates.now) (asked wanted.now))) }
 {
-    let found = by_forms(alloc, candidates.list().as_slice(), wanted.as_slice())?;
-    Ok(found)
+    let mut tries = 0;
+    match search(alloc, candidates, wanted, &mut tries) {
+        Ok(_set) => Ok(None),
+        Err(SearchFault::NoVersion) => {
+            let found = by_forms(alloc, candidates.list().as_slice(), wanted.as_slice())?;
+            Ok(found)
+        }
+        Err(SearchFault::NoMemory) => Err(NoMemory),
+    }
 }

@@ -6,12 +6,14 @@ ghost use Rattle.recipe_reader.specs.Members.{members};
 ghost use Rattle.recipe_reader.specs.Sets.{asked, name_of, required_names};
 ghost use Rattle.why_not.specs.Certificates.{IsOpen};
 ghost use Rattle.why_not.specs.Ends.{IsReachedSet};
+ghost use Rattle.why_not.specs.Fronts.{listed, IsFront};
 ghost use Rattle.why_not.specs.Gathers.{JoinsOthers};
 ghost use Rattle.why_not.specs.Found.{IsFound, IsTried, UsesUp};
 
 use crate::checker::has;
 use crate::choosing::{Form, next_name};
 use crate::facts::{asking, is_named, is_wanted};
+use crate::front::Front;
 use crate::reasons::{Partial, against, alone};
 use crate::why::Why;
 use nuc_base::{Copied, Name, NoMemory};
@@ -84,17 +86,19 @@ fn is_left_out(form: Form, own: &[u32], place: u32) -> bool
 
 /// Takes the place, which is of an open name, and goes on from there. Each node takes one of those that are left.
 #[cycle(explained)]
-fn tried(
+fn tried<'a>(
     alloc: Global,
-    candidates: &[Candidate],
+    candidates: &'a [Candidate],
     wanted: &[Wanted],
     form: Form,
     taken: &mut Vec<u32>,
+    front: &Front<'a>,
     place: u32,
     left: &mut u32,
 ) -> Result<Found, NoMemory>
     requires count { length candidates.now < 2 ^ 32 }
     requires stands { IsReachedSet (members candidates.now) (asked wanted.now) taken.old.items }
+    requires front { IsFront (members candidates.now) (asked wanted.now) taken.old.items (listed front.now.names.items) }
     requires next { (n : List ℕ) × IsOpen (members candidates.now) (asked wanted.now) taken.old.items n × (name_of (members candidates.now) place ≡ Some n) }
     ensures found { IfOk result (IsTried (members candidates.now) (asked wanted.now) form taken.old.items place left.old left.new) }
     ensures small { IfOk result (UsesUp left.old left.new) }
@@ -109,29 +113,32 @@ fn tried(
         return Ok(Found::Because(part));
     }
     taken.push(place)?;
-    let found = explained(alloc, candidates, wanted, form, taken, left)?;
+    let after = front.after(alloc, candidates, taken.as_slice(), place)?;
+    let found = explained(alloc, candidates, wanted, form, taken, &after, left)?;
     taken.pop();
     Ok(found)
 }
 
 /// A certificate for the taken places, which stand, of at most so many nodes as are left.
 #[cycle(explained)]
-pub(crate) fn explained(
+pub(crate) fn explained<'a>(
     alloc: Global,
-    candidates: &[Candidate],
+    candidates: &'a [Candidate],
     wanted: &[Wanted],
     form: Form,
     taken: &mut Vec<u32>,
+    front: &Front<'a>,
     left: &mut u32,
 ) -> Result<Found, NoMemory>
     requires count { length candidates.now < 2 ^ 32 }
     requires stands { IsReachedSet (members candidates.now) (asked wanted.now) taken.old.items }
+    requires front { IsFront (members candidates.now) (asked wanted.now) taken.old.items (listed front.now.names.items) }
     ensures found { IfOk result (IsFound (members candidates.now) (asked wanted.now) form taken.old.items left.old left.new) }
     ensures small { IfOk result (UsesUp left.old left.new) }
     ensures same { OnOk result (taken.new.items ≡ taken.old.items) }
     ensures fewer { OnOk result (left.new ≤ left.old) }
 {
-    let Some(pick) = next_name(candidates, wanted, form, taken.as_slice()) else {
+    let Some(pick) = next_name(candidates, form, front) else {
         return Ok(Found::Valid);
     };
     if *left == 0 {
@@ -143,7 +150,7 @@ pub(crate) fn explained(
     for i in 0..candidates.len() {
         let place = i as u32;
         if is_named(candidates, place, pick.name) {
-            match tried(alloc, candidates, wanted, form, taken, place, left)? {
+            match tried(alloc, candidates, wanted, form, taken, front, place, left)? {
                 Found::Because(part) => {
                     if is_left_out(form, part.used.as_slice(), place) {
                         return Ok(Found::Because(part));

@@ -11,7 +11,7 @@ use npm_ranges::Range;
 use nuc_base::Name;
 use recipe_reader::{Candidate, Dependency, Wanted};
 
-fn is_same(name: &Name, other: &Name) -> bool
+pub(crate) fn is_same(name: &Name, other: &Name) -> bool
     ensures { IsTrue result ↔ (name.now ≡ other.now) }
 {
     name.as_bytes() == other.as_bytes()

@@ -11,6 +11,7 @@ mod choosing;
 mod explainer;
 mod explaining;
 mod facts;
+mod front;
 mod laws;
 mod lines;
 mod loops;

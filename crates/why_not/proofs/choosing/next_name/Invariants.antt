@@ -1,9 +1,9 @@
-use Rattle.std.proofs.Common.{take}
-use Rattle.recipe_reader.specs.Members.{members}
-use Rattle.recipe_reader.specs.Sets.{asked, required_names}
+use Rattle.std.proofs.Common.{ℕ, List, take}
+use Rattle.recipe_reader.specs.Members.{Need, members}
+use Rattle.why_not.specs.Fronts.{listed, IsFront}
 use Rattle.why_not.specs.Picks.{IsPick}
 use Rattle.why_not.proofs.choosing.next_name.Given as goal
 
-abbrev pub invariant-loop-place : goal.invariant-loop-place
-invariant-loop-place l = IsPick (members l.candidates) l.form l.taken (required_names (members l.candidates) (asked l.wanted) (take l.place-index l.taken))
-    l.best
+abbrev pub invariant-loop-name : goal.invariant-loop-name
+invariant-loop-name l = (wanted : List Need) (taken : List ℕ) → IsFront (members l.candidates) wanted taken (listed l.front.names.items)
+    → IsPick (members l.candidates) l.form taken (listed (take l.name-index l.front.names.items)) l.best

@@ -6,6 +6,7 @@ use Rattle.recipe_reader.specs.Members.{members, member}
 use Rattle.recipe_reader.specs.Sets.{asked, required_names, IsComplete}
 use Rattle.why_not.specs.Ends.{IsReachedSet, FitsWith}
 use Rattle.why_not.specs.Found.{IsFound, IsTried, UsesUp}
+use Rattle.why_not.specs.Fronts.{listed, IsFront}
 use Rattle.why_not.specs.Gathers.{JoinsOthers, AreBranchesSoFar, BranchesUseUp, IsPlainSoFar}
 use Rattle.why_not.specs.Picks.{IsPicked}
 use Rattle.why_not.specs.declared.explaining.Found.TheVariants.{TooLarge, Because}
@@ -31,8 +32,12 @@ tried-explained-requires t c =
       falls,
       (
         c.requires.count,
-        subst (IsReachedSet ms ws) (sym c.in_ok-push.ensures.items)
-            (stands_with ms ws c.args.taken.now.items c.args.place next.0 c.requires.stands next.1 next.2 fits),
+        (
+          subst (IsReachedSet ms ws) (sym c.in_ok-push.ensures.items)
+              (stands_with ms ws c.args.taken.now.items c.args.place next.0 c.requires.stands next.1 next.2 fits),
+          subst (λ taken. IsFront ms ws taken (listed c.in_ok-after.after.names.items)) c.as_slice-2.ensures.value
+              (c.in_ok-after.ensures ws c.args.taken.now.items (c.as_slice-2.ensures.value ∙ c.in_ok-push.ensures.items) c.requires.front),
+        ),
       ),
     )
 
@@ -47,7 +52,7 @@ tried-returns-clause-found t c =
 
 pub explained-returns-in_default-clause-found : goal.explained-returns-in_default-clause-found
 explained-returns-in_default-clause-found t c = ended_valid (members c.args.candidates.now) (asked c.args.wanted.now) c.args.taken.now.items c.requires.stands
-    (subst (IsComplete (members c.args.candidates.now) (asked c.args.wanted.now)) c.as_slice.ensures.value c.in_default.ensures)
+    (c.in_default.ensures (asked c.args.wanted.now) c.args.taken.now.items c.requires.front)
 
 pub explained-loop-i-init : goal.explained-loop-i-init
 explained-loop-i-init t c =
@@ -60,7 +65,7 @@ explained-loop-i-init t c =
       falls = omega (arith, c.if-left-eq0.false);
       gathers = subst (AreBranchesSoFar ms ws taken n 0 c.in_ok-used.used.items) (sym c.new-branches.ensures.items)
           (gathers_start ms ws taken n c.in_ok-used.used.items
-          (λ x i. subst (λ l. Contains l x) c.as_slice-2.ensures.value (c.in_ok-used.ensures.within x i)) c.in_ok-used.ensures.required);
+          (λ x i. subst (λ l. Contains l x) c.as_slice.ensures.value (c.in_ok-used.ensures.within x i)) c.in_ok-used.ensures.required);
       small = subst (BranchesUseUp c.args.left.now _) (sym c.new-branches.ensures.items) (uses_none c.args.left.now _ (omega (arith, c.if-left-eq0.false)));
       plain = λ e. subst (IsPlainSoFar ms ws taken c.args.left.now _) (sym c.new-branches.ensures.items)
           (plain_none ms ws taken c.args.left.now _ (omega (arith, c.if-left-eq0.false)));
@@ -73,15 +78,17 @@ explained-tried-requires t c =
     let h : 2 * c.args.left.now ≡ t = c.decreases in
     let less = c.loop-i.invariant.falls in
     let falls : 2 * c.loop-i.left + 1 < t = omega (arith, h, less) in
-    let pick = subst (λ taken. IsPicked ms c.args.form taken (required_names ms ws taken) c.in-Some.pick) (c.as_slice.ensures.value
-    ∙ sym c.loop-i.invariant.same)
-    c.in-Some.ensures in (
+    let pick = subst (λ taken. IsPicked ms c.args.form taken (required_names ms ws taken) c.in-Some.pick) (sym c.loop-i.invariant.same)
+    (c.in-Some.ensures ws c.args.taken.now.items c.requires.front) in (
       falls,
       (
         c.requires.count,
         (
           subst (IsReachedSet ms ws) (sym c.loop-i.invariant.same) c.requires.stands,
-          (c.in-Some.pick.name.now, record { required = pick.listed; untaken = pick.untaken }, c.is_named.ensures.0 c.if-is_named.true),
+          (
+            subst (λ taken. IsFront ms ws taken (listed c.args.front.now.names.items)) (sym c.loop-i.invariant.same) c.requires.front,
+            (c.in-Some.pick.name.now, record { required = pick.listed; untaken = pick.untaken }, c.is_named.ensures.0 c.if-is_named.true),
+          ),
         ),
       ),
     )
@@ -103,7 +110,7 @@ explained-returns-in-TooLarge-clause-found t c = λ e.
     let ws = asked c.args.wanted.now in
     let found = subst (λ taken. IsTried ms ws c.args.form taken c.loop-i.i c.loop-i.left c.tried.new.left TooLarge) c.loop-i.invariant.same
     (rw c.in-TooLarge.is at c.in_ok-part.ensures.found) in
-    let pick = subst (λ taken. IsPicked ms c.args.form taken (required_names ms ws taken) c.in-Some.pick) c.as_slice.ensures.value c.in-Some.ensures in
+    let pick = c.in-Some.ensures ws c.args.taken.now.items c.requires.front in
     beyond_split ms ws c.args.taken.now.items c.in-Some.pick.name.now c.loop-i.i c.args.left.now c.loop-i.left c.loop-i.used.items c.loop-i.branches.items
     (pick.least e) c.loop-i.invariant.gathers (c.is_named.ensures.0 c.if-is_named.true) (c.loop-i.invariant.plain e) (found e)
 
@@ -165,7 +172,7 @@ explained-returns-clause-found t c =
     let end = c.loop-i.auto.i-end in
     let over = c.loop-i-test.false in
     let all : c.loop-i.i ≡ length ms = omega (arith, end, over) ∙ sym (length-map c.args.candidates.now member) in
-    let pick = subst (λ taken. IsPicked ms c.args.form taken (required_names ms ws taken) c.in-Some.pick) c.as_slice.ensures.value c.in-Some.ensures in
+    let pick = c.in-Some.ensures ws c.args.taken.now.items c.requires.front in
     subst (λ m. IsFound ms ws c.args.form taken c.args.left.now c.loop-i.left (Because (record { why = Split m c.loop-i.branches; used = c.loop-i.used })))
     (sym c.in_ok-copy.ensures)
     (split_found ms ws taken n c.args.form c.args.left.now c.loop-i.left c.loop-i.used c.loop-i.branches
