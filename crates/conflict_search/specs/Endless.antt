@@ -26,7 +26,8 @@ AreListedOf first places listed = (f : ℕ) → IsAmong listed f → (x : ℕ) �
 
 -- each version of a name of the table that is not listed needs some name of the table
 abbrev pub IsClosed : List Member → List Bool → List Bool → Type 0
-IsClosed ms listed among = (p : ℕ) (n : List ℕ) (f : ℕ) → name_of ms p ≡ Some n → IsFirstPlace ms n f → IsAmong among f → IsAmong listed f ⊎ NeedsSome ms among p
+IsClosed ms listed among = (p : ℕ) (n : List ℕ) (f : ℕ) → name_of ms p ≡ Some n → IsFirstPlace ms n f → IsAmong among f →
+    IsAmong listed f ⊎ NeedsSome ms among p
 
 -- each of the places has a term of versions that need some name of the table, and one of these has no "absent"
 pub record AreNeeding (ms : List Member) (among : List Bool) (first : ℕ → ℕ) (places : List ℕ) (terms : List Term) : Type 0 where

@@ -36,7 +36,9 @@ pub(crate) struct Pick<'a> {
 fn live_count(candidates: &[Candidate], refused: &[bool], name: &Name) -> usize
     requires count { length candidates.now < 2 ^ 32 }
 {
-    let start = candidates.partition_point(|c: &Candidate| -> bool { is_before(&c.recipe.name, name) });
+    let start = candidates.partition_point(|c: &Candidate| -> bool {
+        is_before(&c.recipe.name, name)
+    });
     let mut count = 0;
     for i in start..candidates.len() {
         if !is_named(candidates, i as u32, name) {

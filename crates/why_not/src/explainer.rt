@@ -37,7 +37,9 @@ fn from_none(
     let front = Front::new(alloc, candidates, wanted, form)?;
     let mut taken = Vec::new(alloc);
     let mut left = nodes;
-    let found = explained(alloc, candidates, wanted, form, &mut taken, &front, &mut left)?;
+    let found = explained(
+        alloc, candidates, wanted, form, &mut taken, &front, &mut left,
+    )?;
     Ok(found)
 }
 

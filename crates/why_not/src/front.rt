@@ -126,7 +126,12 @@ impl<'a> Front<'a> {
     }
 
     /// Which candidates are refused where the place is taken too.
-    fn refused_with(&self, alloc: Global, candidates: &[Candidate], place: u32) -> Result<Vec<bool>, NoMemory>
+    fn refused_with(
+        &self,
+        alloc: Global,
+        candidates: &[Candidate],
+        place: u32,
+    ) -> Result<Vec<bool>, NoMemory>
         requires count { length candidates.now < 2 ^ 32 }
     {
         let mut refused = Vec::new(alloc);
@@ -135,7 +140,9 @@ impl<'a> Front<'a> {
         }
         for i in 0..candidates.len() {
             let before = self.refused.get(i).copied().unwrap_or(false);
-            refused.push(before || needs_against(candidates, needs_at(candidates, place), i as u32))?;
+            refused.push(
+                before || needs_against(candidates, needs_at(candidates, place), i as u32),
+            )?;
         }
         Ok(refused)
     }
