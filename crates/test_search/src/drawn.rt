@@ -23,7 +23,13 @@ fn push_word(text: &mut String, draw: &mut Draw, at: u64) -> Result<(), AllocErr
 }
 
 /// Adds a version of a name and what it needs: other names, sometimes its own, sometimes one that there is not.
-fn push_row(text: &mut String, draw: &mut Draw, names: u64, at: u64, version: u64) -> Result<(), AllocError> {
+fn push_row(
+    text: &mut String,
+    draw: &mut Draw,
+    names: u64,
+    at: u64,
+    version: u64,
+) -> Result<(), AllocError> {
     push_name(text, at)?;
     write!(text, "{version}")?;
     for other in 0..=names {

@@ -40,21 +40,126 @@ struct Family {
 
 /// `z`, where it is wanted, needs a version of `y` that there is not; `r` and `s` need different versions of one name.
 const FAMILIES: &[Family] = &[
-    Family { shape: Shape::Drawn("=", ">="), names: 20, versions: 5, needs: 3, wanted: "", end: "set" },
-    Family { shape: Shape::Drawn("=", ">="), names: 25, versions: 12, needs: 4, wanted: "", end: "set" },
-    Family { shape: Shape::Drawn("^", ">="), names: 40, versions: 6, needs: 4, wanted: "", end: "set" },
-    Family { shape: Shape::Drawn("~", "^"), names: 25, versions: 12, needs: 3, wanted: "", end: "set" },
-    Family { shape: Shape::Drawn("~", "^"), names: 30, versions: 10, needs: 2, wanted: "", end: "set" },
-    Family { shape: Shape::Drawn("=", ">="), names: 30, versions: 10, needs: 3, wanted: " z:*", end: "none" },
-    Family { shape: Shape::Drawn("^", ">="), names: 30, versions: 8, needs: 3, wanted: " r:* s:*", end: "none" },
-    Family { shape: Shape::Back, names: 30, versions: 8, needs: 3, wanted: "", end: "set" },
-    Family { shape: Shape::Next, names: 64, versions: 1, needs: 16, wanted: "", end: "set" },
-    Family { shape: Shape::Next, names: 24, versions: 8, needs: 16, wanted: "", end: "set" },
-    Family { shape: Shape::Chain, names: 32, versions: 8, needs: 1, wanted: "", end: "set" },
-    Family { shape: Shape::Chain, names: 32, versions: 8, needs: 1, wanted: " n31:^9", end: "none" },
-    Family { shape: Shape::Ring, names: 40, versions: 5, needs: 1, wanted: "", end: "none" },
-    Family { shape: Shape::OneEach, names: 30, versions: 5, needs: 1, wanted: "", end: "none" },
-    Family { shape: Shape::Free, names: 100, versions: 3, needs: 0, wanted: " z:*", end: "none" },
+    Family {
+        shape: Shape::Drawn("=", ">="),
+        names: 20,
+        versions: 5,
+        needs: 3,
+        wanted: "",
+        end: "set",
+    },
+    Family {
+        shape: Shape::Drawn("=", ">="),
+        names: 25,
+        versions: 12,
+        needs: 4,
+        wanted: "",
+        end: "set",
+    },
+    Family {
+        shape: Shape::Drawn("^", ">="),
+        names: 40,
+        versions: 6,
+        needs: 4,
+        wanted: "",
+        end: "set",
+    },
+    Family {
+        shape: Shape::Drawn("~", "^"),
+        names: 25,
+        versions: 12,
+        needs: 3,
+        wanted: "",
+        end: "set",
+    },
+    Family {
+        shape: Shape::Drawn("~", "^"),
+        names: 30,
+        versions: 10,
+        needs: 2,
+        wanted: "",
+        end: "set",
+    },
+    Family {
+        shape: Shape::Drawn("=", ">="),
+        names: 30,
+        versions: 10,
+        needs: 3,
+        wanted: " z:*",
+        end: "none",
+    },
+    Family {
+        shape: Shape::Drawn("^", ">="),
+        names: 30,
+        versions: 8,
+        needs: 3,
+        wanted: " r:* s:*",
+        end: "none",
+    },
+    Family {
+        shape: Shape::Back,
+        names: 30,
+        versions: 8,
+        needs: 3,
+        wanted: "",
+        end: "set",
+    },
+    Family {
+        shape: Shape::Next,
+        names: 64,
+        versions: 1,
+        needs: 16,
+        wanted: "",
+        end: "set",
+    },
+    Family {
+        shape: Shape::Next,
+        names: 24,
+        versions: 8,
+        needs: 16,
+        wanted: "",
+        end: "set",
+    },
+    Family {
+        shape: Shape::Chain,
+        names: 32,
+        versions: 8,
+        needs: 1,
+        wanted: "",
+        end: "set",
+    },
+    Family {
+        shape: Shape::Chain,
+        names: 32,
+        versions: 8,
+        needs: 1,
+        wanted: " n31:^9",
+        end: "none",
+    },
+    Family {
+        shape: Shape::Ring,
+        names: 40,
+        versions: 5,
+        needs: 1,
+        wanted: "",
+        end: "none",
+    },
+    Family {
+        shape: Shape::OneEach,
+        names: 30,
+        versions: 5,
+        needs: 1,
+        wanted: "",
+        end: "none",
+    },
+    Family {
+        shape: Shape::Free,
+        names: 100,
+        versions: 3,
+        needs: 0,
+        wanted: " z:*",
+        end: "none",
+    },
 ];
 
 /// The version of that name that goes with the others.
@@ -78,20 +183,41 @@ fn push_version(text: &mut String, shape: Shape, number: u64) -> Result<(), Allo
     }
 }
 
-fn push_need(text: &mut String, family: &Family, to: u64, operator: &str, number: u64) -> Result<(), AllocError> {
+fn push_need(
+    text: &mut String,
+    family: &Family,
+    to: u64,
+    operator: &str,
+    number: u64,
+) -> Result<(), AllocError> {
     write!(text, " n{to:02}:{operator}")?;
     push_version(text, family.shape, number)
 }
 
 /// Needs of later names.
-fn push_drawn(text: &mut String, family: &Family, draw: &mut Draw, name: u64, version: u64, either: (&str, &str)) -> Result<(), AllocError> {
+fn push_drawn(
+    text: &mut String,
+    family: &Family,
+    draw: &mut Draw,
+    name: u64,
+    version: u64,
+    either: (&str, &str),
+) -> Result<(), AllocError> {
     let versions = family.versions;
     let mut to = name;
     for _need in 0..family.needs {
         to = to.saturating_add(1).saturating_add(draw.below(3));
-        let operator = if draw.below(3) == 0 { either.0 } else { either.1 };
+        let operator = if draw.below(3) == 0 {
+            either.0
+        } else {
+            either.1
+        };
         let other = draw.below(versions);
-        let number = if version == chosen(name, versions) { chosen(to, versions) } else { other };
+        let number = if version == chosen(name, versions) {
+            chosen(to, versions)
+        } else {
+            other
+        };
         if to < family.names {
             push_need(text, family, to, operator, number)?;
         }
@@ -99,7 +225,13 @@ fn push_drawn(text: &mut String, family: &Family, draw: &mut Draw, name: u64, ve
     Ok(())
 }
 
-fn push_back(text: &mut String, family: &Family, draw: &mut Draw, name: u64, version: u64) -> Result<(), AllocError> {
+fn push_back(
+    text: &mut String,
+    family: &Family,
+    draw: &mut Draw,
+    name: u64,
+    version: u64,
+) -> Result<(), AllocError> {
     push_drawn(text, family, draw, name, version, ("^", ">="))?;
     let to = draw.below(name.max(1));
     if name > 0 && version != chosen(name, family.versions) {
@@ -108,30 +240,59 @@ fn push_back(text: &mut String, family: &Family, draw: &mut Draw, name: u64, ver
     Ok(())
 }
 
-fn push_next(text: &mut String, family: &Family, name: u64, version: u64) -> Result<(), AllocError> {
-    for to in name.saturating_add(1)..name.saturating_add(family.needs).saturating_add(1).min(family.names) {
+fn push_next(
+    text: &mut String,
+    family: &Family,
+    name: u64,
+    version: u64,
+) -> Result<(), AllocError> {
+    for to in name.saturating_add(1)..name
+        .saturating_add(family.needs)
+        .saturating_add(1)
+        .min(family.names)
+    {
         push_need(text, family, to, ">=", version)?;
     }
     Ok(())
 }
 
-fn push_needs(text: &mut String, family: &Family, draw: &mut Draw, name: u64, version: u64) -> Result<(), AllocError> {
+fn push_needs(
+    text: &mut String,
+    family: &Family,
+    draw: &mut Draw,
+    name: u64,
+    version: u64,
+) -> Result<(), AllocError> {
     let next = name.saturating_add(1);
     match family.shape {
         Shape::Drawn(one, other) => push_drawn(text, family, draw, name, version, (one, other)),
         Shape::Back => push_back(text, family, draw, name, version),
         Shape::Next => push_next(text, family, name, version),
         Shape::Chain if next < family.names => push_need(text, family, next, "=", version),
-        Shape::Ring => push_need(text, family, if next < family.names { next } else { 0 }, ">=", 0),
+        Shape::Ring => push_need(
+            text,
+            family,
+            if next < family.names { next } else { 0 },
+            ">=",
+            0,
+        ),
         Shape::OneEach => {
-            let to = name.saturating_add(1).saturating_add(draw.below(family.names.saturating_sub(1))) % family.names.max(1);
+            let to = name
+                .saturating_add(1)
+                .saturating_add(draw.below(family.names.saturating_sub(1)))
+                % family.names.max(1);
             push_need(text, family, to, ">=", 0)
         }
         _ => Ok(()),
     }
 }
 
-fn push_rows(text: &mut String, family: &Family, draw: &mut Draw, name: u64) -> Result<(), AllocError> {
+fn push_rows(
+    text: &mut String,
+    family: &Family,
+    draw: &mut Draw,
+    name: u64,
+) -> Result<(), AllocError> {
     for version in 0..family.versions {
         write!(text, "n{name:02}=")?;
         push_version(text, family.shape, version)?;
@@ -158,7 +319,12 @@ fn end_of(alloc: Global, rows: &str, words: &str) -> Result<&'static str, Fail> 
     let mut tries = 0;
     match search(alloc, &candidates, &wanted, &mut tries) {
         Ok(set) => {
-            let valid = is_valid(alloc, candidates.list().as_slice(), wanted.as_slice(), set.as_slice())?;
+            let valid = is_valid(
+                alloc,
+                candidates.list().as_slice(),
+                wanted.as_slice(),
+                set.as_slice(),
+            )?;
             Ok(if valid { "set" } else { "wrong" })
         }
         Err(SearchFault::NoVersion) => Ok("none"),

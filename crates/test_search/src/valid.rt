@@ -72,7 +72,11 @@ fn is_needed(candidates: &[Candidate], by: &[u32], name: &Name) -> bool {
 }
 
 /// Those that one of them needs.
-fn needed_of(alloc: Global, candidates: &[Candidate], some: &[u32]) -> Result<Vec<u32>, AllocError> {
+fn needed_of(
+    alloc: Global,
+    candidates: &[Candidate],
+    some: &[u32],
+) -> Result<Vec<u32>, AllocError> {
     let mut needed = Vec::new(alloc);
     for place in some {
         if let Some(candidate) = at(candidates, *place) {
@@ -98,13 +102,21 @@ fn is_reached(candidates: &[Candidate], wanted: &[Wanted], set: &[u32], place: u
     match at(candidates, place) {
         Some(candidate) => {
             let name = &candidate.recipe.name;
-            wanted.iter().any(|one: &Wanted| -> bool { one.name == *name }) || is_needed(candidates, set, name)
+            wanted
+                .iter()
+                .any(|one: &Wanted| -> bool { one.name == *name })
+                || is_needed(candidates, set, name)
         }
         None => false,
     }
 }
 
-pub fn is_valid(alloc: Global, candidates: &[Candidate], wanted: &[Wanted], set: &[u32]) -> Result<bool, AllocError> {
+pub fn is_valid(
+    alloc: Global,
+    candidates: &[Candidate],
+    wanted: &[Wanted],
+    set: &[u32],
+) -> Result<bool, AllocError> {
     for one in wanted {
         if !is_met(candidates, set, &one.name, &one.range) {
             return Ok(false);
