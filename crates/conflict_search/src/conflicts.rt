@@ -34,6 +34,19 @@ fn was_met(draft: &[u64], event: &Event) -> bool {
     true
 }
 
+/// Whether no other term of the draft than the event's came to be met since the last decision. No answer rests on it.
+fn is_last_of_level(draft: &[u64], earlier: &[Event], event: &Event) -> bool {
+    for other in earlier.iter().rev() {
+        if other.level != event.level {
+            return event.level > 0;
+        }
+        if other.from != event.from && !was_met(draft, other) {
+            return false;
+        }
+    }
+    event.level > 0
+}
+
 /// About so many bytes the terms take.
 fn size_of(terms: &[Term]) -> u64 {
     let mut size: u64 = 24;
@@ -67,8 +80,8 @@ impl<'a> Library<'a> {
         true
     }
 
-    /// Joins the draft, all of whose terms are met, with the reasons of the events that met them, from the latest back to the
-    /// last decision.
+    /// Joins the draft, all of whose terms are met, with the reasons of the events that met them, from the latest back, until one
+    /// term alone was met since the last decision.
     fn join_reasons(&self, draft: &mut [u64], nogoods: &Nogoods, events: &[Event])
         requires count { length self.now.candidates.now < 2 ^ 32 }
         requires rising { IsRising (members_in self.now) }
@@ -77,9 +90,15 @@ impl<'a> Library<'a> {
         requires nogoods { AreNogoods (members_in self.now) (wanted_in self.now) nogoods.now }
         ensures { IsNogoodRow (members_in self.now) (wanted_in self.now) draft.new }
     {
-        for event in events.iter().rev() {
-            if !was_met(draft, event) && !self.join_reason(draft, nogoods, event) {
-                return;
+        for at in (0..events.len()).rev() {
+            let event = &events[at];
+            if !was_met(draft, event) {
+                if is_last_of_level(draft, &events[..at], event) {
+                    return;
+                }
+                if !self.join_reason(draft, nogoods, event) {
+                    return;
+                }
             }
         }
     }
