@@ -67,6 +67,21 @@ fn by_forms(
     }
 }
 
+/// The same of the candidates and of what is wanted as they are handed in.
+fn certificate(
+    alloc: Global,
+    candidates: &Candidates,
+    wanted: &List<Wanted>,
+) -> Result<Option<Why>, NoMemory>
+    ensures found { IfOk result (λ found. MatchOption found
+        ((s : List ℕ) × IsValid (members candidates.now) (asked wanted.now) s)
+        (λ why. IsExplanation (members candidates.now) (asked wanted.now) (seen why))) }
+    ensures none { IfOk result (λ found. IfSome found (λ _. HasNoSet (members candidates.now) (asked wanted.now))) }
+{
+    let found = by_forms(alloc, candidates.list().as_slice(), wanted.as_slice())?;
+    Ok(found)
+}
+
 /// Why no set of the candidates is valid for what is wanted, or none where one is valid.
 ///
 /// The certificate is the plain one where that has at most 1,024 nodes: a split at the least required name that is not
@@ -87,10 +102,7 @@ pub fn explain(
     let mut tries = 0;
     match search(alloc, candidates, wanted, &mut tries) {
         Ok(_set) => Ok(None),
-        Err(SearchFault::NoVersion) => {
-            let found = by_forms(alloc, candidates.list().as_slice(), wanted.as_slice())?;
-            Ok(found)
-        }
+        Err(SearchFault::NoVersion) => certificate(alloc, candidates, wanted),
         Err(SearchFault::NoMemory) => Err(NoMemory),
     }
 }

@@ -3,6 +3,7 @@ use Rattle.recipe_reader.specs.Members.{members}
 use Rattle.recipe_reader.specs.Sets.{asked}
 use Rattle.why_not.specs.Ends.{IsReachedSet}
 use Rattle.why_not.specs.Found.{IsFound}
+use Rattle.why_not.specs.Fronts.{listed, IsFront}
 use Rattle.why_not.proofs.Ends.{stands_nil}
 use Rattle.why_not.proofs.Finding.{explained_start, up_to}
 use Rattle.why_not.proofs.explainer.from_none.Goals as goal
@@ -11,7 +12,8 @@ pub explained-requires : goal.explained-requires
 explained-requires c =
     let ms = members c.args.candidates.now in
     let ws = asked c.args.wanted.now in
-    record { count = c.requires.count; stands = subst (IsReachedSet ms ws) (sym c.new-taken.ensures.items) (stands_nil ms ws) }
+    record { count = c.requires.count; stands = subst (IsReachedSet ms ws) (sym c.new-taken.ensures.items) (stands_nil ms ws);
+      front = subst (λ taken. IsFront ms ws taken (listed c.in_ok-front.front.names.items)) (sym c.new-taken.ensures.items) c.in_ok-front.ensures }
 
 pub returns-clause-found : goal.returns-clause-found
 returns-clause-found c =
