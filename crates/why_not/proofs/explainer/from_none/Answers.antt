@@ -12,8 +12,11 @@ pub explained-requires : goal.explained-requires
 explained-requires c =
     let ms = members c.args.candidates.now in
     let ws = asked c.args.wanted.now in
-    record { count = c.requires.count; stands = subst (IsReachedSet ms ws) (sym c.new-taken.ensures.items) (stands_nil ms ws);
-      front = subst (λ taken. IsFront ms ws taken (listed c.in_ok-front.front.names.items)) (sym c.new-taken.ensures.items) c.in_ok-front.ensures }
+    record {
+      count = c.requires.count;
+      stands = subst (IsReachedSet ms ws) (sym c.new-taken.ensures.items) (stands_nil ms ws);
+      front = subst (λ taken. IsFront ms ws taken (listed c.in_ok-front.front.names.items)) (sym c.new-taken.ensures.items) c.in_ok-front.ensures;
+    }
 
 pub returns-clause-found : goal.returns-clause-found
 returns-clause-found c =
