@@ -57,6 +57,9 @@ pub(crate) fn pause_after(quiet: u64) -> u64
 /// one stop do.
 pub(crate) const PATIENCE_MS: u64 = 5_000;
 
+/// How many they have at least behind a start or a wait while one that was killed lives on: most end in a few.
+pub(crate) const LITTLE_PATIENCE_MS: u64 = 250;
+
 /// How many milliseconds of the patience that is left one kill may wait: four fifths, so that whatever lives on leaves some to
 /// those behind it, and all wait less than the whole.
 pub(crate) fn share_of(patience: u64) -> u64

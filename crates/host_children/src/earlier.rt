@@ -32,7 +32,7 @@ impl<'a, R: Processes + Clock + Files<File = File> + AllocGlobal> Keeper<'a, R> 
         for note in found.iter() {
             self.kill_noted(note);
         }
-        let all = self.await_ends(found.as_slice())?;
+        let all = self.await_ends(found.as_slice(), PATIENCE_MS)?;
         for note in found.iter() {
             self.tell_noted(note, all.as_slice());
         }
@@ -58,13 +58,13 @@ impl<'a, R: Processes + Clock + Files<File = File> + AllocGlobal> Keeper<'a, R> 
         Ok(())
     }
 
-    /// Looks until none of them lives, or the patience is over, and answers what was seen last.
-    fn await_ends(&self, notes: &[Note]) -> io::Result<Vec<Seen>> {
+    /// Looks until none of them lives, for so many milliseconds at most, and answers what was seen last.
+    pub(crate) fn await_ends(&self, notes: &[Note], most: u64) -> io::Result<Vec<Seen>> {
         let start = Instant::now(self.rt).ok();
         let mut waited: u64 = 0;
         for _ in 0..u64::MAX {
             let all = all_seen(self.rt)?;
-            if waited >= PATIENCE_MS || none_lives(notes, all.as_slice()) {
+            if waited >= most || none_lives(notes, all.as_slice()) {
                 return Ok(all);
             }
             let pause = pause_within(waited);

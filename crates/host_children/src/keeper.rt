@@ -1,7 +1,9 @@
 //! What is done with the processes of steps: they are started, noted, told of and ended.
 
 use crate::children::{Running, poll};
-use crate::clock::{PATIENCE_MS, pause_within, share_of, waited_since};
+use crate::clock::{
+    LITTLE_PATIENCE_MS, PATIENCE_MS, millis_since, pause_within, share_of, waited_since,
+};
 use crate::notes::{Extent, Note, Notes};
 use crate::output::{component_of, log_name, turn_log};
 use crate::processes::find_process;
@@ -16,7 +18,7 @@ use std::os::unix::fs::DirBuilderExt;
 use std::process::{Child, OpenProcess, Processes};
 use std::rt::Clock;
 use std::time::{Duration, Instant};
-use std::{io, mem, process, thread};
+use std::{fs, io, mem, process, thread};
 use step_runner::Command;
 
 /// Folders are their owner's alone.
@@ -157,10 +159,15 @@ impl<'a, R: Processes + Clock + Files<File = File> + AllocGlobal> Keeper<'a, R> 
         }
     }
 
-    /// The same, with all patience for the kills that follow.
+    /// The same, with all patience for the kills that follow, or, while one that was killed lives on, with a little at least: the
+    /// kills of one stop are many, with starts and waits between them where there are steps of shutdowns.
     pub(crate) fn begin_anew(&mut self) {
         self.begin();
-        self.patience = PATIENCE_MS;
+        self.patience = if self.let_go.is_empty() {
+            PATIENCE_MS
+        } else {
+            self.patience.max(LITTLE_PATIENCE_MS)
+        };
     }
 
     /// Tells an event in the log of events and in that of the component.
@@ -200,6 +207,9 @@ impl<'a, R: Processes + Clock + Files<File = File> + AllocGlobal> Keeper<'a, R> 
     }
 
     fn spawn(&self, command: &Command) -> io::Result<Child<R::Started>> {
+        // Where DIR was moved away it is not made again in its old place.
+        let root = if self.root.is_empty() { "." } else { self.root };
+        fs::metadata(self.rt, root)?;
         make_folder(self.rt, command.folder.as_str())?;
         let mut prepared = prepared(self.rt, self.alloc, self.root, &self.shell, command)?;
         let child = spawn_tried(self.rt, &mut prepared);
@@ -267,8 +277,30 @@ impl<'a, R: Processes + Clock + Files<File = File> + AllocGlobal> Keeper<'a, R> 
             let component = step.component.as_str();
             self.tell(component, &Event::LivesOn { component, process });
             let _ = self.let_go.push(step);
+        } else if self.is_outlived(step.place) {
+            // What lives of its group stays noted, so that the next call ends it.
+            let component = step.component.as_str();
+            self.tell(component, &Event::LivesOn { component, process });
         } else {
             self.forget(step.place);
+        }
+    }
+
+    /// Whether others of the group of a process that has ended live on, once they had their share of the patience.
+    fn is_outlived(&mut self, place: Option<usize>) -> bool {
+        let Some(note) = self.notes.at(place) else {
+            return false;
+        };
+        if note.extent == Extent::Process {
+            return false;
+        }
+        let start = Instant::now(self.rt).ok();
+        let found = self.await_ends(&[note], share_of(self.patience));
+        let waited = millis_since(self.rt, &start).unwrap_or(0);
+        self.patience = self.patience.saturating_sub(waited);
+        match found {
+            Ok(all) => note.lives(all.as_slice()),
+            Err(_) => true,
         }
     }
 

@@ -42,8 +42,16 @@ pub(crate) struct Note {
 impl Note {
     /// Whether what it stands for is among these: the process itself, or, where that has ended, another one of its group. A
     /// process with its number that was started at another time is another one, and so is a group with a member that was
-    /// started before.
+    /// started before, and that of this program.
     pub(crate) fn lives(&self, all: &[Seen]) -> bool {
+        // A container that is started again counts from 1 again, mostly under the same number of its space: what was noted before
+        // its process 1 was started is of another life of it.
+        if all
+            .iter()
+            .any(|seen| seen.process == 1 && seen.start > self.start)
+        {
+            return false;
+        }
         match all.iter().find(|seen| seen.process == self.process) {
             Some(seen) if seen.start != self.start => false,
             Some(seen) if !seen.has_ended => true,
@@ -64,10 +72,12 @@ impl Note {
     }
 
     fn group_lives(&self, all: &[Seen]) -> bool {
+        let own = libc::getpid();
         let mut lives = false;
         for seen in all {
             if seen.group == self.process && !seen.has_ended {
-                if seen.start < self.start {
+                // The group of this program is not one that an earlier call left.
+                if seen.start < self.start || i64::from(seen.process) == i64::from(own) {
                     return false;
                 }
                 lives = true;
@@ -213,6 +223,14 @@ impl Notes {
         self.file = found;
         self.system = Some(system);
         Ok(())
+    }
+
+    /// The note at this place.
+    pub(crate) fn at(&self, place: Option<usize>) -> Option<Note> {
+        match self.places.get(place?) {
+            Some(note) => *note,
+            None => None,
+        }
     }
 
     pub(crate) fn is_empty(&self) -> bool {

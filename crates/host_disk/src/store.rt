@@ -6,7 +6,7 @@ use crate::listing::{Closed, list_files};
 use crate::outside::Outside;
 use crate::slot::Slot;
 use crate::streams::HeldStreams;
-use host_files::{LONGEST_NAME, Paths, folder_of, is_file, is_within, make_folder, sync_folder};
+use host_files::{LOG_LIMIT, LONGEST_NAME, Paths, folder_of, is_within, make_folder, sync_folder};
 use nuc_base::{FileName, List, NoMemory};
 use std::alloc::Global;
 use std::fs::{File, Files, OpenOptions};
@@ -136,7 +136,7 @@ impl<'a, R: Files<File = File> + AllocGlobal + Clock> Store<'a, R> {
             Ok(found) if found.uid() == libc::geteuid() => Ok(()),
             Ok(_) => {
                 self.failed = true;
-                if !is_file(files, self.paths.below(EVENTS)?)? {
+                if !is_gone_on_with(files, self.paths.below(EVENTS)?) {
                     self.outside.hush();
                 }
                 Err(io::Error::new(ErrorKind::PermissionDenied, "it belongs to another user"))
@@ -389,6 +389,14 @@ impl<'a, R: Files<File = File> + AllocGlobal + Clock> Store<'a, R> {
             }
         }
         Ok(())
+    }
+}
+
+/// Whether a log stands there that is not set aside before its next line: the new one would be this user's.
+fn is_gone_on_with<R: Files>(files: &R, path: &str) -> bool {
+    match fs::symlink_metadata(files, path) {
+        Ok(found) => found.is_file() && found.len() <= LOG_LIMIT,
+        Err(_) => false,
     }
 }
 
