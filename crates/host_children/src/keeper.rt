@@ -295,7 +295,8 @@ impl<'a, R: Processes + Clock + Files<File = File> + AllocGlobal> Keeper<'a, R> 
             return false;
         }
         let start = Instant::now(self.rt).ok();
-        let found = self.await_ends(&[note], share_of(self.patience));
+        let most = share_of(self.patience);
+        let found = self.await_ends(&[note], most);
         let waited = millis_since(self.rt, &start).unwrap_or(0);
         self.patience = self.patience.saturating_sub(waited);
         match found {
