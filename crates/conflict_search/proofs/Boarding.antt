@@ -177,4 +177,3 @@ next_found cs wanted board k up h there least =
         ];
       };
     }
-

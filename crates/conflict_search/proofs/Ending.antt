@@ -79,17 +79,17 @@ module _ (ms : List Member) (wanted : List Need) (among listed : List Bool) (fir
     none = λ walk s met.
         (let Q = λ (p : ℕ). (n : List ℕ) × (f : ℕ) × Contains walk p × (name_of ms p ≡ Some n) × IsFirstPlace ms n f × IsAmong among f in
         let next : (p : ℕ) → Q p → (q : ℕ) × Q q × HasDependency ms walk p q = λ p a.
-            (let d = needs_again walk s met p a.0 a.1 a.2 a.3 a.4 a.5 in
-            let q = complete_from ms wanted [] walk s.is_walk d.0.name (required_by_need ms wanted walk p d.0 a.2 d.1) in
-            (q.0, (d.0.name, d.2, q.1, q.2, d.3, d.4), record { from = a.2; to = q.1; by = d.0; is = d.1; named = q.2 })) in
+        (let d = needs_again walk s met p a.0 a.1 a.2 a.3 a.4 a.5 in
+        let q = complete_from ms wanted [] walk s.is_walk d.0.name (required_by_need ms wanted walk p d.0 a.2 d.1) in
+        (q.0, (d.0.name, d.2, q.1, q.2, d.3, d.4), record { from = a.2; to = q.1; by = d.0; is = d.1; named = q.2 })) in
         let start = h.present in
         let m = met start.0 start.1 in
         let value = m.1 in
         elim value.choice [
           | inl z ↦ absurd (start.3 (subst (Has start.0.set.items) z.0 m.2))
           | inr r ↦ (let round = comes_back (HasDependency ms walk) Q (length ms) (λ p a. within_from_name ms p a.0 a.3) next (suc (length ms)) [] r.0 (omega arith)
-                distinct_nil (all_from_in (λ x. x < length ms) [] (λ x i. absurd (in_nil x i))) (λ x i. absurd (in_nil x i)) (in_nil r.0)
-                (value.name, start.0.from, r.1, r.2, value.is, start.2) in
+              distinct_nil (all_from_in (λ x. x < length ms) [] (λ x i. absurd (in_nil x i))) (λ x i. absurd (in_nil x i)) (in_nil r.0)
+              (value.name, start.0.from, r.1, r.2, value.is, start.2) in
               let c = s.consistent in
               c.acyclic round.0 round.1)
         ]);
@@ -153,8 +153,11 @@ module _ (first : ℕ → ℕ) (places : List ℕ) (i : ℕ) (listed : List Bool
   pub listed_more : (at : ℕ) → i < length places → AreListedOf first (take i places) listed → first (get_or places i 0) ≡ at →
       AreListedOf first (take (i + 1) places) (slice_set listed at true)
   listed_more at lt h here f is = elim (cases_eq f at) [
-    | inl e ↦ (get_or places i 0, subst (λ l. Contains l (get_or places i 0)) (sym (take_more places i 0 lt)) (Contains-push (take i places) (get_or places i 0)),
-        here ∙ sym e)
+    | inl e ↦ (
+      get_or places i 0,
+      subst (λ l. Contains l (get_or places i 0)) (sym (take_more places i 0 lt)) (Contains-push (take i places) (get_or places i 0)),
+      here ∙ sym e,
+    )
     | inr ne ↦ (let x = h f (sym (get_or-set_other listed at f true false ne) ∙ is) in (x.0, so_far lt x.0 x.1, x.2))
   ]
 

@@ -82,7 +82,7 @@ fewer_at from n old other new w v h =
         | inl lt ↦ (let j : ℕ = v / 64 - from in
             let e : v / 64 ≡ from + j = omega (arith, ge) in
             let both = and_bit (get_or old (from + j) 0) (get_or other j 0) (v % 64)
-                (ap (λ x. bit_at x (v % 64)) (sym (w.done j (omega (arith, lt, ge)))) ∙ has_in new v (from + j) (v % 64) e refl h) in
+            (ap (λ x. bit_at x (v % 64)) (sym (w.done j (omega (arith, lt, ge)))) ∙ has_in new v (from + j) (v % 64) e refl h) in
             has_from old v (from + j) (v % 64) e refl both.0)
       ]
     ]
@@ -93,7 +93,7 @@ met_at from n old other new w v small h =
     let f : (64 * from + v) % 64 ≡ v % 64 = omega arith in
     let lt : v / 64 < n = omega (arith, small) in
     let both = and_bit (get_or old (from + v / 64) 0) (get_or other (v / 64) 0) (v % 64)
-        (ap (λ x. bit_at x (v % 64)) (sym (w.done (v / 64) lt)) ∙ has_in new (64 * from + v) (from + v / 64) (v % 64) e f h) in
+    (ap (λ x. bit_at x (v % 64)) (sym (w.done (v / 64) lt)) ∙ has_in new (64 * from + v) (from + v / 64) (v % 64) e f h) in
     has_from other v (v / 64) (v % 64) refl refl both.1
 
 pub joined_at_kept : (from n : ℕ) (old other new : List ℕ) → AreWordsAt bit_or from n old other new → (v : ℕ) → Has old v → Has new v

@@ -77,7 +77,9 @@ impl<'a> Library<'a> {
     {
         let mut terms = Vec::new(self.alloc);
         for place in 0..self.candidates.len() {
-            if self.names.first(place as u32) as usize == place && !self.is_full(row, place as u32) {
+            if self.names.first(place as u32) as usize == place
+                && !self.is_full(row, place as u32)
+            {
                 terms.push(self.term_in(row, place as u32)?)?;
             }
         }

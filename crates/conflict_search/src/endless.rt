@@ -141,7 +141,10 @@ impl<'a> Library<'a> {
     {
         for place in 0..self.candidates.len() {
             let first = self.names.first(place as u32);
-            if is_in(among, first) && !is_in(listed, first) && !self.needs_some(place as u32, among) {
+            if is_in(among, first)
+                && !is_in(listed, first)
+                && !self.needs_some(place as u32, among)
+            {
                 return false;
             }
         }
@@ -149,7 +152,12 @@ impl<'a> Library<'a> {
     }
 
     /// The terms of a nogood of these names, of which the first is present.
-    fn needing_all(&self, present: u32, places: &[u32], among: &[bool]) -> Result<Vec<Term>, NoMemory>
+    fn needing_all(
+        &self,
+        present: u32,
+        places: &[u32],
+        among: &[bool],
+    ) -> Result<Vec<Term>, NoMemory>
         requires count { length self.now.candidates.now < 2 ^ 32 }
         requires rising { IsRising (members_in self.now) }
         requires names { AreNames (members_in self.now) self.now.names.now }

@@ -10,8 +10,8 @@ ghost use Rattle.conflict_search.specs.States.{IsRooted, IsReady, IsSearchState}
 
 use crate::board::Board;
 use crate::budget::{Stop, spend};
-use crate::demands::Demand;
 use crate::conflicts::Learned;
+use crate::demands::Demand;
 use crate::library::Library;
 use crate::state::State;
 use nuc_base::NoMemory;

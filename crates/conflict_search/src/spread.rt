@@ -106,11 +106,7 @@ impl<'a> Library<'a> {
     }
 
     /// Begins all nogoods that are new. The draft of one all of whose terms are met, if there is one.
-    fn begin_nogoods(
-        &self,
-        state: &mut State<'a>,
-        left: &mut u64,
-    ) -> Result<Option<Vec<u64>>, Stop>
+    fn begin_nogoods(&self, state: &mut State<'a>, left: &mut u64) -> Result<Option<Vec<u64>>, Stop>
         requires count { length self.now.candidates.now < 2 ^ 32 }
         requires rising { IsRising (members_in self.now) }
         requires names { AreNames (members_in self.now) self.now.names.now }

@@ -131,7 +131,11 @@ impl Watches {
         let Some(Some(pair)) = self.pairs.get(nogood).copied() else {
             return Ok(false);
         };
-        let kept = if pair.one == gone { pair.other } else { pair.one };
+        let kept = if pair.one == gone {
+            pair.other
+        } else {
+            pair.one
+        };
         let Some(one) = another(row, terms, Some(kept.from)) else {
             return Ok(false);
         };

@@ -22,7 +22,7 @@ add_place-requires-clause-named c = λ n is.
     let from = c.loop-place.invariant.from in
     let start = c.first-place.ensures in
     let named = named_between cs b.name c.loop-place.term.from c.loop-place.place c.args.number c.requires.rising first.named b.named
-        (omega (arith, from, start)) (omega (arith, c.loop-place-test.true)) in
+    (omega (arith, from, start)) (omega (arith, c.loop-place-test.true)) in
     named ∙ ap Some (name_same ms b.name n c.loop-place.term.from first is)
 
 pub loop-place-preserved : goal.loop-place-preserved

@@ -49,9 +49,9 @@ loop-place-preserved c =
               (new (64 * f + (p + 1 - f))).1 (inr (omega (arith, at, same, bit))),
             ))
         | inr other ↦ (let old = c.loop-place.invariant.1 n f p (omega (arith, lt, other)) is e in (
-              (new (64 * f)).1 (inl ((mid (64 * f)).1 (inl old.0))),
-              (new (64 * f + (p + 1 - f))).1 (inl ((mid (64 * f + (p + 1 - f))).1 (inl old.1))),
-            ))
+          (new (64 * f)).1 (inl ((mid (64 * f)).1 (inl old.0))),
+          (new (64 * f + (p + 1 - f))).1 (inl ((mid (64 * f + (p + 1 - f))).1 (inl old.1))),
+        ))
       ],
     )
 

@@ -23,5 +23,5 @@ returns c = λ yes n f e is.
           let high = number.last p named in
           let within = within_there cs p n named in
           subst (λ z. Has c.args.row.now (64 * z + (p + 1 - z))) same
-              (c.loop-other.invariant p (omega (arith, low, same)) (omega (arith, high, last, end, done, within, count)))),
+          (c.loop-other.invariant p (omega (arith, low, same)) (omega (arith, high, last, end, done, within, count)))),
     )

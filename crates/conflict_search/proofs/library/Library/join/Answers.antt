@@ -11,7 +11,7 @@ add_values-requires c =
     let ms = members_in c.args.self.now in
     let t = c.index-terms-at.result in
     let room = term_room c.args.self.now.candidates.now t
-        (term_at ms (wanted_in c.args.self.now) c.args.terms.now c.args.at t c.requires.nogood c.requires.at c.index-terms-at.is) in
+    (term_at ms (wanted_in c.args.self.now) c.args.terms.now c.args.at t c.requires.nogood c.requires.at c.index-terms-at.is) in
     let draft = c.requires.draft in
     let row = draft.count in
     let all = length-map c.args.self.now.candidates.now member in
@@ -22,7 +22,7 @@ meet_at-requires c =
     let ms = members_in c.args.self.now in
     let t = c.index-terms-index.result in
     let room = term_room c.args.self.now.candidates.now t
-        (term_at ms (wanted_in c.args.self.now) c.args.terms.now c.loop-index.index t c.requires.nogood c.loop-index-test.true c.index-terms-index.is) in
+    (term_at ms (wanted_in c.args.self.now) c.args.terms.now c.loop-index.index t c.requires.nogood c.loop-index-test.true c.index-terms-index.is) in
     let count = ap length c.deref.ensures.value in
     let draft = c.requires.draft in
     let row = draft.count in

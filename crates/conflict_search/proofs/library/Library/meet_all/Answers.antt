@@ -14,7 +14,7 @@ meet_at-requires c =
     let ms = members_in c.args.self.now in
     let t = c.term-item.result in
     let room = term_room c.args.self.now.candidates.now t
-        (term_at ms (wanted_in c.args.self.now) c.args.terms.now c.loop-term.term-index t c.requires.nogood c.loop-term-test.true c.term-item.is) in
+    (term_at ms (wanted_in c.args.self.now) c.args.terms.now c.loop-term.term-index t c.requires.nogood c.loop-term-test.true c.term-item.is) in
     let count = ap length c.deref.ensures.value in
     let row = c.requires.row in
     let same = c.loop-term.invariant.0 in

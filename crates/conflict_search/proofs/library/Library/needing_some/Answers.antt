@@ -33,7 +33,7 @@ add_place-requires-clause-named c = λ n is.
     let last = c.last.ensures in
     let end = c.saturating_add-end.ensures in
     let named = named_between cs f.0 c.loop-other.term.from c.loop-other.other (get_or c.args.self.now.names.now.last.items c.args.place 0) c.requires.rising
-        first.named number.named (omega (arith, from, start)) (omega (arith, last, end, c.loop-other-test.true)) in
+    first.named number.named (omega (arith, from, start)) (omega (arith, last, end, c.loop-other-test.true)) in
     named ∙ ap Some (name_same ms f.0 n c.loop-other.term.from first is)
 
 pub loop-other-preserved : goal.loop-other-preserved
@@ -46,10 +46,10 @@ loop-other-preserved c =
     let Keeps = λ (t : Term). IsNeeding ms among t × (t.from ≡ get_or c.args.self.now.names.now.first.items c.args.place 0) × (Has t.set.items 0 → ⊥) in
     elim c.if-needs_some.branch [
       | then-needs_some w ↦ subst Keeps (sym w.term-is) (
-          needing_place ms among c.loop-other.term inside.0 w.add_place.new.term c.loop-other.other w.add_place.ensures.term w.add_place.ensures.from
-              (λ v b. (w.add_place.ensures.added v).0 b) (omega (arith, from, start)) (c.needs_some.ensures w.if-needs_some.true),
-          w.add_place.ensures.from ∙ inside.1,
-          λ b. elim ((w.add_place.ensures.added 0).0 b) [ inl o ↦ inside.2 o | inr e ↦ absurd (omega (arith, e, from, start)) ],
-        )
+        needing_place ms among c.loop-other.term inside.0 w.add_place.new.term c.loop-other.other w.add_place.ensures.term w.add_place.ensures.from
+            (λ v b. (w.add_place.ensures.added v).0 b) (omega (arith, from, start)) (c.needs_some.ensures w.if-needs_some.true),
+        w.add_place.ensures.from ∙ inside.1,
+        λ b. elim ((w.add_place.ensures.added 0).0 b) [ inl o ↦ inside.2 o | inr e ↦ absurd (omega (arith, e, from, start)) ],
+      )
       | else-needs_some w ↦ subst Keeps (sym w.term-is) inside
     ]

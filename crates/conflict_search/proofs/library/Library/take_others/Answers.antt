@@ -24,6 +24,6 @@ returns-clause-sound c = λ taken i sound.
     let first = subst (IsFirstPlace ms named.0) (sym c.in_ok-term.ensures.from) named.2 in
     let has = (c.in_ok-term.ensures.alone (c.args.place + 1 - t.from)).1 refl in
     let kept = subst (λ l. (v : ℕ) → Has c.args.row.now v → Has c.meet_at.new.set v ⊎ ((64 * t.from ≤ v) × (v - 64 * t.from < 64 * length l) × (Has l (v - 64 * t.from) → ⊥)))
-        c.deref.ensures.value c.meet_at.ensures.kept in
+    c.deref.ensures.value c.meet_at.ensures.kept in
     decides_soundly ms (wanted_in c.args.self.now) taken c.args.row.now c.meet_at.new.set named.0 c.args.place t (together_of cs c.requires.rising) sound i
     c.in_ok-term.ensures.term first named.1 has kept

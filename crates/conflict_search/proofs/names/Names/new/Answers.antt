@@ -15,9 +15,9 @@ loop-place-preserved c =
     let First = λ (p : ℕ) (f : ℕ). (n : List ℕ) → name_of ms p ≡ Some n → IsFirstPlace ms n f in
     let Last = λ (p : ℕ) (f : ℕ). (n : List ℕ) → name_of ms p ≡ Some n → IsNumber ms n f in
     let first = by_place_push First c.loop-place.first.items c.first_place.result c.loop-place.place inside.firsts (λ p lt n e. inside.first p n lt e)
-        (λ n e. subst (λ m. IsFirstPlace ms m c.first_place.result) (same_Some c.name_at-name.result.now n (sym c.name_at-name.ensures ∙ e)) c.first_place.ensures) in
+    (λ n e. subst (λ m. IsFirstPlace ms m c.first_place.result) (same_Some c.name_at-name.result.now n (sym c.name_at-name.ensures ∙ e)) c.first_place.ensures) in
     let last = by_place_push Last c.loop-place.last.items c.last_place.result c.loop-place.place inside.lasts (λ p lt n e. inside.last p n lt e)
-        (λ n e. c.last_place.ensures n e) in
+    (λ n e. c.last_place.ensures n e) in
     record {
       firsts = ap length c.in_ok-push.ensures.items ∙ length_push c.loop-place.first.items c.first_place.result ∙ ap (λ n. n + 1) inside.firsts;
       lasts = ap length c.in_ok-push-2.ensures.items ∙ length_push c.loop-place.last.items c.last_place.result ∙ ap (λ n. n + 1) inside.lasts;
