@@ -469,21 +469,29 @@ fn write_otherwise(rt: &HostRuntime, which: usize) -> Result<(), Fail> {
     Ok(())
 }
 
+/// Whether a new runner in the folder has no child, once it has ended what is noted there.
+fn is_quiet(rt: &HostRuntime, root: &str) -> bool {
+    let mut later = ShellRunner::new(rt, root);
+    let is_quiet = later.wait(0) == Waited::Elapsed;
+    drop(later);
+    is_quiet
+}
+
 /// Whether a child lives on where that word of its note is another one.
 fn is_left_alone(rt: &HostRuntime, which: usize) -> Result<bool, Fail> {
     let root = "earlier-of-a-test";
     let mut earlier = ShellRunner::new(rt, root);
     let is_begun = starts_beating(rt, &mut earlier, false) == Ok(true);
+    let notes = fs::read_to_string(rt, "earlier-of-a-test/children")?;
     write_otherwise(rt, which)?;
-    let mut later = ShellRunner::new(rt, root);
-    let is_quiet = later.wait(0) == Waited::Elapsed;
+    let is_passed_over = is_quiet(rt, root);
     let lives = is_beating(rt)?;
-    drop(later);
-    // Children are numbered from 0.
-    earlier.kill(0);
+    // Under its own note it is ended.
+    fs::write(rt, "earlier-of-a-test/children", notes.as_str())?;
+    let is_over = is_quiet(rt, root) && !is_beating(rt)?;
     drop(earlier);
     fs::remove_dir_all(rt, root)?;
-    Ok(is_begun && is_quiet && lives)
+    Ok(is_begun && is_passed_over && lives && is_over)
 }
 
 #[test]
@@ -571,17 +579,15 @@ fn starts_are_tried_again(rt: HostRuntime) -> Result<(), Fail> {
 fn prints_for_a_minute<R: Runner>(alloc: Global, runner: &mut R) -> Result<bool, NoMemory> {
     let script = "head -c 2097153 /dev/zero; echo x > printed; exec sleep 30";
     let command = command(alloc, "turned-of-a-test/work/A", script)?;
-    let Ok(child) = runner.start(&command) else {
+    if runner.start(&command).is_err() {
         return Ok(false);
-    };
+    }
     let printed = text(alloc, "turned-of-a-test/work/A/printed")?;
     let mut is_printed = false;
     for _ in 0..200 {
         is_printed = is_printed || (runner.wait(100) == Waited::Elapsed && runner.exists(&printed));
     }
-    let is_quiet = runner.wait(70_000) == Waited::Elapsed;
-    runner.kill(child);
-    Ok(is_printed && is_quiet)
+    Ok(is_printed && runner.wait(70_000) == Waited::Elapsed)
 }
 
 #[test]
@@ -593,10 +599,11 @@ fn a_long_log_is_cut_while_its_child_lives(rt: HostRuntime) -> Result<(), Fail> 
     let mut runner = ShellRunner::new(&system, root);
     let is_printed = prints_for_a_minute(rt.alloc(), &mut runner) == Ok(true);
     drop(runner);
+    let is_over = is_quiet(&rt, root);
     let now = fs::metadata(&rt, "turned-of-a-test/logs/A.log")?.len();
     let before = fs::metadata(&rt, "turned-of-a-test/logs/A.log.1")?.len();
     fs::remove_dir_all(&rt, root)?;
-    assert!(rt; is_printed);
+    assert!(rt; is_printed && is_over);
     assert!(rt; now < 1_000 && before == 1_048_576, "{now} {before}");
     Ok(())
 }
