@@ -18,7 +18,7 @@ use std::os::unix::fs::DirBuilderExt;
 use std::process::{Child, OpenProcess, Processes};
 use std::rt::Clock;
 use std::time::{Duration, Instant};
-use std::{fs, io, mem, process, thread};
+use std::{io, mem, process, thread};
 use step_runner::Command;
 
 /// Folders are their owner's alone.
@@ -207,9 +207,6 @@ impl<'a, R: Processes + Clock + Files<File = File> + AllocGlobal> Keeper<'a, R> 
     }
 
     fn spawn(&self, command: &Command) -> io::Result<Child<R::Started>> {
-        // Where DIR was moved away it is not made again in its old place.
-        let root = if self.root.is_empty() { "." } else { self.root };
-        fs::metadata(self.rt, root)?;
         make_folder(self.rt, command.folder.as_str())?;
         let mut prepared = prepared(self.rt, self.alloc, self.root, &self.shell, command)?;
         let child = spawn_tried(self.rt, &mut prepared);
