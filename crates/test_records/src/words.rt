@@ -60,6 +60,8 @@ deploy => usage
 --root|/gg|init|--thing|t1|--nucleus|2.12|--os|linux|--arch|amd64 => usage
 --root|/gg|config-get|--component|A/b => usage
 --root|/gg|config-get|--component|A|--pointer|a => usage
+--root|/gg|config-get|--component|A|--pointer|/a\x1fb => usage
+--root|/gg|config-get|--component|A|--pointer|/a~2 => usage
 --root|/g\x1fg|deploy => usage";
 
 fn push_word(alloc: Global, words: &mut Vec<String>, word: &str) -> Result<(), AllocError> {
