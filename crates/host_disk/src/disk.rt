@@ -18,7 +18,8 @@ use std::time::Clock;
 /// of what the files hold, and counts its faults. An absent file reads as an empty one.
 ///
 /// A program that may write is alone: where another one holds the lock for 200 milliseconds, the first call fails. It fails too
-/// where the journal is another user's, and the store is not to be made. Readers hold it up for ten seconds at most. Where a
+/// where the journal is another user's, and the store is not to be made. In another user's folder without
+/// a journal and a lock, one that does not make the store only reads. Readers hold it up for ten seconds at most. Where a
 /// sync failed all later calls fail, since the system may have dropped what was not written. No symbolic link below the folder
 /// is followed, and nothing but plain files is opened. Whatever is no folder is listed, also what is empty or no plain file,
 /// and can be removed. A cut to nothing makes a file that is not there. Folders of artifacts that are empty go with the last

@@ -120,12 +120,39 @@ impl<'a, R: Files<File = File> + AllocGlobal + Clock> Store<'a, R> {
         if self.outside.access == Access::Write {
             self.check_owner(FIRST_JOURNAL)?;
             self.check_owner(SECOND_JOURNAL)?;
+            if self.is_strange()? {
+                self.outside.access = Access::Read;
+                self.outside.hush();
+            }
         }
         if self.outside.access.writes() {
             self.lock = Some(take_lock(&self.outside, &mut self.paths)?);
         }
         self.begun = true;
         Ok(())
+    }
+
+    /// Whether the folder is another user's, with neither a store nor a lock in it. Only whoever makes a store makes a lock
+    /// there: it would be this user's, and keep the other one out.
+    fn is_strange(&mut self) -> io::Result<bool> {
+        let folder = fs::symlink_metadata(self.outside.rt, self.paths.below("")?)?;
+        if folder.uid() == libc::geteuid() {
+            return Ok(false);
+        }
+        for file in [FIRST_JOURNAL, SECOND_JOURNAL, LOCK] {
+            if self.is_there(file)? {
+                return Ok(false);
+            }
+        }
+        Ok(true)
+    }
+
+    fn is_there(&mut self, file: &str) -> io::Result<bool> {
+        match fs::symlink_metadata(self.outside.rt, self.paths.below(file)?) {
+            Ok(_) => Ok(true),
+            Err(error) if error.kind() == ErrorKind::NotFound => Ok(false),
+            Err(error) => Err(error),
+        }
     }
 
     /// Fails, and all later calls too, where the file is there and another user's, who could do nothing with what this one
