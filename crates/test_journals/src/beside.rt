@@ -1,6 +1,6 @@
 //! A reader beside a writer: what is found while the files change between two calls.
 
-ghost use Rattle.std.specs.Prelude.{false, []};
+ghost use Rattle.std.specs.Prelude.{◌≤◌, false, [], length};
 ghost use Rattle.test_journals.specs.Untold.{no_image, untold_laws};
 
 use checkpoint_log::Slots;
