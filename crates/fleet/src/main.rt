@@ -4,8 +4,6 @@
 //! status by its cause. It stands on `fleet_core`, and on `edges` for what it reads from and writes to.
 #![tactic(auto)]
 
-ghost use Rattle.std.specs.Prelude.{◌≡◌, length, IfOk};
-
 mod commands;
 mod printing;
 mod running;
@@ -21,9 +19,7 @@ use std::rt::Env;
 use std::{env, io};
 
 /// Words that are faulty, whatever they are: one more than the program's name.
-fn faulty(alloc: Global) -> Result<Vec<String>, AllocError>
-    ensures { IfOk result (λ words. length words.items ≡ 2) }
-{
+fn faulty(alloc: Global) -> Result<Vec<String>, AllocError> {
     let mut words = Vec::with_capacity(alloc, 2)?;
     words.push(String::new(alloc))?;
     words.push(String::new(alloc))?;
