@@ -2,7 +2,8 @@
 """measure.py PROGRAM ROOT: what choosing versions takes in libraries of several families, beside clasp where that is installed.
 
 Of each family `plan` is run, and so often without anything wanted, which only reads the library; what is left is the search.
-The least of the runs counts, in processor time, so that other work on the machine shows little. Fails where an end is not that of
+Of clasp the whole call counts, its start and its reading too, and beside it stands a call that only reads and prints what it
+read. The least of the runs counts, in processor time, so that other work on the machine shows little. Fails where an end is not that of
 the family, where the set is not clasp's, and where a goal is missed by more than a quarter: no family but pigeonholes takes
 longer than clasp nor above 60 ms, nine pigeonholes take below 0.2 s, and a search that gives up does so within two seconds and
 16 MB, and `why` says it within two seconds of 1,024 names with 64 needs each."""
@@ -76,6 +77,10 @@ def missed(title, end, took, beside, memory, why):
         yield f"{title}: `why` takes {why:.3f} s, more than 2 s"
 
 
+def millis(seconds):
+    return "" if seconds is None else f"{seconds * 1000:.1f}"
+
+
 def measured(title, end, library, has_clasp):
     recipes, wanted = library()
     write_library(recipes)
@@ -88,16 +93,17 @@ def measured(title, end, library, has_clasp):
     faults = []
     if status != STATUSES[end] or why_status not in ([15] if end == "spent" else [3, 15] if end == "none" else [0]):
         faults.append(f"{title}: status {status}, and of `why` {why_status}")
-    beside = None
+    beside = beside_reading = None
     if has_clasp:
         with open(f"{ROOT}/program", "w", encoding="utf-8") as file:
             file.write(peer.program_of(recipes, wanted))
-        found, beside = min((peer.solved(f"{ROOT}/program", 20) for _ in range(1 if end == "spent" else 3)), key=lambda one: one[1])
+        found, beside = min((peer.solved(f"{ROOT}/program", 20) for _ in range(1 if end == "spent" else RUNS)), key=lambda one: one[1])
+        beside_reading = min(peer.read(f"{ROOT}/program") for _ in range(RUNS))
         if end in ("set", "none") and found not in ("late", set_of(lines) if end == "set" else None):
             faults.append(f"{title}: clasp has another set")
     faults += missed(title, end, took, beside, memory - read_memory, why)
-    shown = "" if beside is None else f"{beside * 1000:.1f}"
-    print(f"| {title} | {end} | {len(recipes)} | {took * 1000:.1f} | {shown} | {reading * 1000:.1f} | {why * 1000:.1f} | {memory:.1f} |", flush=True)
+    row = [title, end, len(recipes), millis(took), millis(beside), millis(reading), millis(beside_reading), millis(why), f"{memory:.1f}"]
+    print(f"| {' | '.join(map(str, row))} |", flush=True)
     return faults
 
 
@@ -107,8 +113,8 @@ if not has_clasp:
 with open(f"{ROOT}/started", "wb") as said:
     init = [PROGRAM, "--root", ROOT, "init", "--thing", "t1", "--nucleus", "2.12.0", "--os", "linux", "--arch", "amd64"]
     subprocess.run(init, stdout=said, check=True)
-print("| Library | Ends | Recipes | Search, ms | clasp, ms | Reading, ms | `why`, ms | Peak, MB |")
-print("|---|---|---|---|---|---|---|---|")
+print("| Library | Ends | Recipes | Search, ms | clasp, ms | Reading, ms | clasp reading, ms | `why`, ms | Peak, MB |")
+print("|---|---|---|---|---|---|---|---|---|")
 faults = [fault for family in libraries.FAMILIES for fault in measured(*family, has_clasp)]
 if faults:
     sys.exit("\n".join(faults))

@@ -93,14 +93,23 @@ def program_of(recipes, wanted):
     return "\n".join([*made.lines, "0", ""])
 
 
-def solved(path, seconds):
-    """The chosen versions, None where there are none, or "late"; and the processor seconds of the whole call."""
-    words = ["clasp", "--heuristic=Domain", "--time-limit", str(seconds), path]
-    child = subprocess.Popen(words, stdout=subprocess.PIPE, stderr=subprocess.DEVNULL)
+def called(words):
+    """What clasp prints, and the processor seconds of the whole call."""
+    child = subprocess.Popen(["clasp", *words], stdout=subprocess.PIPE, stderr=subprocess.DEVNULL)
     said = child.stdout.read().decode()
     _, _, used = os.wait4(child.pid, 0)
     child.returncode = 0
-    took = used.ru_utime + used.ru_stime
+    return said, used.ru_utime + used.ru_stime
+
+
+def read(path):
+    """The processor seconds of a call that reads the program, simplifies it as one that solves does, and prints it."""
+    return called(["--pre", path])[1]
+
+
+def solved(path, seconds):
+    """The chosen versions, None where there are none, or "late"; and the processor seconds of the whole call."""
+    said, took = called(["--heuristic=Domain", "--time-limit", str(seconds), path])
     if "UNSATISFIABLE" in said:
         return None, took
     if "SATISFIABLE" not in said:

@@ -18,7 +18,7 @@ use std::process::ExitCode;
 use std::rt::Env;
 use std::{env, io};
 
-/// Words that are faulty, whatever they are.
+/// Words that are faulty, whatever they are: one more than the program's name.
 fn faulty(alloc: Global) -> Result<Vec<String>, AllocError> {
     let mut words = Vec::with_capacity(alloc, 2)?;
     words.push(String::new(alloc))?;

@@ -18,7 +18,7 @@ use std::os::unix::fs::DirBuilderExt;
 use std::process::{Child, OpenProcess, Processes};
 use std::rt::Clock;
 use std::time::{Duration, Instant};
-use std::{io, mem, process, thread};
+use std::{fs, io, mem, process, thread};
 use step_runner::Command;
 
 /// Folders are their owner's alone.
@@ -67,6 +67,8 @@ pub(crate) struct Keeper<'a, R: Processes> {
     patience: u64,
     /// Whether what an earlier call left was ended.
     has_begun: bool,
+    /// Whether the root was there then. It is not made again where it was moved away.
+    had_root: bool,
     /// The moment at which the logs of those that live were looked at.
     turned: Cell<u64>,
 }
@@ -142,6 +144,7 @@ impl<'a, R: Processes + Clock + Files<File = File> + AllocGlobal> Keeper<'a, R> 
             let_go: Vec::new(alloc),
             patience: PATIENCE_MS,
             has_begun: false,
+            had_root: false,
             turned: Cell::new(0),
         }
     }
@@ -150,6 +153,7 @@ impl<'a, R: Processes + Clock + Files<File = File> + AllocGlobal> Keeper<'a, R> 
     pub(crate) fn begin(&mut self) {
         if !self.has_begun {
             self.has_begun = true;
+            self.had_root = self.check_root().is_ok();
             if let Err(error) = self.end_earlier() {
                 self.log.tell(&Event::NotesFailed { error: &error });
             }
@@ -157,6 +161,13 @@ impl<'a, R: Processes + Clock + Files<File = File> + AllocGlobal> Keeper<'a, R> 
         if !self.let_go.is_empty() {
             self.look_at_let_go();
         }
+    }
+
+    /// Fails where nothing stands at the root.
+    fn check_root(&self) -> io::Result<()> {
+        let root = if self.root.is_empty() { "." } else { self.root };
+        fs::metadata(self.rt, root)?;
+        Ok(())
     }
 
     /// The same, with all patience for the kills that follow, or, while one that was killed lives on, with a little at least: the
@@ -207,6 +218,9 @@ impl<'a, R: Processes + Clock + Files<File = File> + AllocGlobal> Keeper<'a, R> 
     }
 
     fn spawn(&self, command: &Command) -> io::Result<Child<R::Started>> {
+        if self.had_root {
+            self.check_root()?;
+        }
         make_folder(self.rt, command.folder.as_str())?;
         let mut prepared = prepared(self.rt, self.alloc, self.root, &self.shell, command)?;
         let child = spawn_tried(self.rt, &mut prepared);

@@ -23,6 +23,10 @@ const TABLE: &str = "\
 --root|/gg|config-get|--component|A|--pointer|/a/b => /gg: config-get A 2
 --root|/gg|config-set|--component|A => /gg: config-set A
 --root|/gg|why => /gg: why
+--root|/gg|components => /gg: components
+--root|/gg|about => /gg: about
+--root|/gg|components|--json => usage
+--root|/gg|about|--thing|t1 => usage
 --root=/gg|deploy => /gg: deploy
 --root=|deploy => : deploy
 --root||deploy => : deploy
@@ -60,6 +64,8 @@ deploy => usage
 --root|/gg|init|--thing|t1|--nucleus|2.12|--os|linux|--arch|amd64 => usage
 --root|/gg|config-get|--component|A/b => usage
 --root|/gg|config-get|--component|A|--pointer|a => usage
+--root|/gg|config-get|--component|A|--pointer|/a\x1fb => usage
+--root|/gg|config-get|--component|A|--pointer|/a~2 => usage
 --root|/g\x1fg|deploy => usage";
 
 fn push_word(alloc: Global, words: &mut Vec<String>, word: &str) -> Result<(), AllocError> {
@@ -109,6 +115,8 @@ fn order_text(alloc: Global, order: &Order) -> Result<String, AllocError> {
         ),
         Order::ConfigSet(name) => format!(in alloc; "config-set {}", name.as_str()),
         Order::Why => String::from_str(alloc, "why"),
+        Order::Components => String::from_str(alloc, "components"),
+        Order::About => String::from_str(alloc, "about"),
     }
 }
 
