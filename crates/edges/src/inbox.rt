@@ -51,8 +51,19 @@ impl From<NoMemory> for InboxFault {
 /// Where deployment documents come from, one after another. A call answers its fault where the count rose, and else
 /// not. Every inbox tells how it answered.
 pub trait Inbox {
+    ghost use Rattle.std.specs.declared.result.Result.{Result};
+    ghost use Rattle.edges.specs.declared.inbox.Incoming.{Incoming};
+    ghost use Rattle.edges.specs.declared.inbox.InboxFault.{InboxFault};
+    ghost use Rattle.edges.specs.declared.source.EdgeFault.{EdgeFault};
+
     /// The documents that are not done, and whether the inbox was closed, where they are told.
     ghost waiting: { Self → Option Waiting };
+
+    /// What a question may be answered that leads from the one inbox to the other.
+    ghost asks: { Self → Self → Result Incoming InboxFault → Type 0 };
+
+    /// What the end of a document may do that leads from the one inbox to the other.
+    ghost ends: { Self → Self → Result (Unit {0}) EdgeFault → Type 0 };
 
     /// How it has answered.
     ghost answered: { Self → Answers };
@@ -63,6 +74,7 @@ pub trait Inbox {
     /// The first document that is not done, whole or its first 524,289 bytes. Where all are done, `Closed` exactly
     /// where the inbox was closed, and else `Nothing`.
     fn next(&mut self, alloc: Global) -> Result<Incoming, InboxFault>
+        ensures asks { asks self.old self.new result }
         ensures told { IfOk result (λ incoming. IfSome (waiting self.old) (λ w. incoming ≡ next_of w.documents w.closed)) }
         ensures short { IfOk result IsShort }
         ensures waiting { waiting self.new ≡ waiting self.old }
@@ -75,6 +87,7 @@ pub trait Inbox {
     /// Drops the document that `next` gave.
     fn done(&mut self) -> Result<(), EdgeFault>
         requires { IsTrue (answered self.old).is_given }
+        ensures ends { ends self.old self.new result }
         ensures told { MatchResult result (λ _. waiting self.new ≡ option_map without_first (waiting self.old)) (λ _. waiting self.new ≡ waiting self.old) }
         ensures counted { OnOk result (answered self.new ≡ after_done (answered self.old)) }
         ensures uncounted { OnErr result (answered self.new ≡ answered self.old) }

@@ -1,4 +1,4 @@
-ghost use Rattle.std.specs.Prelude.{◌≡◌, ◌≤◌, ◌+◌, None, length, IfOk, IfSome, OnOk, IsErrOf};
+ghost use Rattle.std.specs.Prelude.{◌≡◌, ◌≤◌, ◌+◌, None, length, IfOk, IfSome, OnOk, IsErrOf, ⊤};
 ghost use Rattle.nuc_base.specs.Faults.{Rose, HasCause};
 ghost use Rattle.edges.specs.Inboxes.{unanswered};
 ghost use Rattle.edges.specs.Waiting.{IsShort};
@@ -182,6 +182,10 @@ impl<'a, R: Files<File = File> + Clock + AllocGlobal + Clone + Drop> FolderInbox
 
 impl<'a, R: Files<File = File> + Clock + AllocGlobal + Clone + Drop> Inbox for FolderInbox<'a, R> {
     ghost waiting = { λ inbox. None };
+
+    ghost asks = { λ before after result. ⊤ };
+
+    ghost ends = { λ before after result. ⊤ };
 
     ghost answered = { λ inbox. inbox_answered inbox };
 
