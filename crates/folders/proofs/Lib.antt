@@ -1,0 +1,4 @@
+pub mod Histories
+pub mod Moves
+mod Recorded
+mod Naming
