@@ -1,11 +1,15 @@
 //! The way of a document through the folders: from the inbox to those that were taken, and away once it was handled.
-ghost use Rattle.std.specs.Prelude.{◌≤◌, length, IfOk, IfSome};
+ghost use Rattle.std.specs.Prelude.{◌≡◌, ◌≤◌, None, length, IfOk, IfSome, OnOk, IsErrOf};
+ghost use Rattle.nuc_base.specs.Faults.{Rose, HasCause};
+ghost use Rattle.host_edges.specs.Real.{tray_faults, tray_missed};
 
 use crate::told::Told;
+use folder_edges::FolderInbox;
+use folders::{FolderFault, Tray};
 use host_files::{
     Event, JsonNames, Paths, is_file, json_names, make_folder, may_read, read_prefix, sync_folder,
 };
-use nuc_base::{Bytes, DOCUMENT_LIMIT, NoMemory};
+use nuc_base::{Bytes, List, NoMemory};
 use std::alloc::Global;
 use std::fs::{File, Files, Metadata};
 use std::io::ErrorKind;
@@ -22,12 +26,6 @@ pub(crate) const TAKEN: &str = "taken";
 /// Where those go that were handled, where it stands.
 const HANDLED: &str = "handled";
 
-/// The file that closes the inbox.
-const CLOSED: &str = "closed";
-
-/// The most bytes of a document that are given: one more than a document may have.
-const MOST_GIVEN: usize = DOCUMENT_LIMIT + 1;
-
 /// What stands under a name. A link is no file, whatever it leads to.
 #[derive(Clone, Copy, Debug, PartialEq, Eq)]
 enum Kind {
@@ -43,52 +41,64 @@ struct Place {
     number: u64,
 }
 
-/// The folders of documents below a root. What cannot be taken, read or taken away is told in the log of events and is no fault:
-/// want of memory alone is an error of the calls on one document.
+/// The folders of documents below a root: `inbox`, `taken`, and `handled` where it stands. What cannot be taken, read or put
+/// back is told in the log of events.
 #[derive(Drop)]
-pub(crate) struct Tray<'a, R: Files<File = File>> {
+struct Documents<'a, R: Files<File = File>> {
     rt: &'a R,
     paths: Paths<'a>,
     /// The path that something is moved to.
     target: Paths<'a>,
-    pub(crate) told: Told<'a, R>,
+    told: Told<'a, R>,
     /// The root, once it was looked at.
     root: Option<Place>,
-    /// Documents that were handled and could not be taken away.
-    left: Vec<String>,
 }
 
-impl<'a, R: Files<File = File> + Clock + AllocGlobal> Tray<'a, R> {
-    pub(crate) fn new(rt: &'a R, root: &'a str) -> Result<Self, NoMemory> {
+/// The real tray. It tells nothing of what the folders hold, and counts its faults: how often the inbox could not be listed, as
+/// where the root is gone, and how often a document that is done could not be taken away or a move not be made stable.
+#[derive(Drop)]
+pub struct SystemTray<'a, R: Files<File = File>> {
+    documents: Documents<'a, R>,
+    faults: u64,
+    missed: u64,
+}
+
+/// The inbox of the folder below a root. An empty root is the current folder. Nothing is read before the first call.
+pub fn folder_inbox<'a, R: Files<File = File> + Clock + AllocGlobal + Clone + Drop>(
+    rt: &'a R,
+    root: &'a str,
+) -> Result<FolderInbox<SystemTray<'a, R>>, NoMemory> {
+    Ok(FolderInbox::new(rt.alloc(), SystemTray::new(rt, root)?))
+}
+
+/// The name as a text.
+fn text_of(name: &[u8]) -> io::Result<&str> {
+    match str::from_utf8(name) {
+        Ok(text) => Ok(text),
+        Err(_) => Err(io::Error::from(ErrorKind::InvalidInput)),
+    }
+}
+
+impl<'a, R: Files<File = File> + Clock + AllocGlobal> Documents<'a, R> {
+    fn new(rt: &'a R, root: &'a str) -> Result<Self, NoMemory> {
         let alloc = rt.alloc();
-        Ok(Tray {
+        Ok(Documents {
             rt,
             paths: Paths::new(alloc, root)?,
             target: Paths::new(alloc, root)?,
             told: Told::new(rt, root, "inbox"),
             root: None,
-            left: Vec::new(alloc),
         })
     }
 
-    /// Tells of a fault of the call at the path that was used last.
-    pub(crate) fn tell_fault(&self, call: &str, error: &io::Error) {
-        self.told.fault(call, self.paths.last(), error);
-    }
-
-    /// Makes room to remember one more document that cannot be taken away.
-    pub(crate) fn make_room(&mut self) -> io::Result<()> {
-        Ok(self.left.reserve(1)?)
-    }
-
-    /// Whether the inbox was closed.
-    pub(crate) fn is_closed(&mut self) -> io::Result<bool> {
-        let path = self.paths.entry(INBOX, CLOSED)?;
+    /// Whether a plain file stands under this name in the inbox, or a link to one.
+    fn has_file(&mut self, name: &[u8]) -> io::Result<bool> {
+        let path = self.paths.entry(INBOX, text_of(name)?)?;
         Ok(is_file(self.rt, path).unwrap_or(false))
     }
 
     /// The names of the documents in the inbox. It fails where the root is gone, or another folder than at the first call.
-    pub(crate) fn list_inbox(&mut self) -> io::Result<Vec<String>> {
+    fn list_inbox(&mut self) -> io::Result<Vec<String>> {
         self.told.begin();
         self.check_root()?;
         let found = json_names(self.rt, self.paths.below(INBOX)?)?;
@@ -96,7 +106,7 @@ impl<'a, R: Files<File = File> + Clock + AllocGlobal> Tray<'a, R> {
     }
 
     /// The names of the documents that were taken and are not handled.
-    pub(crate) fn list_taken(&mut self) -> io::Result<Vec<String>> {
+    fn list_kept(&mut self) -> io::Result<Vec<String>> {
         let found = match json_names(self.rt, self.paths.below(TAKEN)?) {
             Ok(found) => found,
             Err(error) if error.kind() == ErrorKind::OutOfMemory => return Err(error),
@@ -105,9 +115,7 @@ impl<'a, R: Files<File = File> + Clock + AllocGlobal> Tray<'a, R> {
                 JsonNames::none(self.rt.alloc())
             }
         };
-        let mut names = self.known(TAKEN, found);
-        names.retain(|name| !self.left.contains(name));
-        Ok(names)
+        Ok(self.known(TAKEN, found))
     }
 
     /// The names that are text. Of the others it tells.
@@ -130,7 +138,7 @@ impl<'a, R: Files<File = File> + Clock + AllocGlobal> Tray<'a, R> {
 
     /// Takes a document out of the inbox. Answers whether it did: what is gone is forgotten, and what is no document or cannot
     /// be taken now is passed over.
-    pub(crate) fn take(&mut self, name: &str) -> io::Result<bool> {
+    fn take_file(&mut self, name: &str) -> io::Result<bool> {
         match self.try_take(name) {
             Ok(Kind::File) => Ok(true),
             Ok(Kind::Nothing) => Ok(false),
@@ -160,50 +168,55 @@ impl<'a, R: Files<File = File> + Clock + AllocGlobal> Tray<'a, R> {
         self.make_place(name)?;
         let target = self.target.entry(TAKEN, name)?;
         fs::rename(self.rt, self.paths.entry(INBOX, name)?, target)?;
-        self.left.retain(|left| left.as_str() != name);
-        self.sync(TAKEN);
+        if let Err(error) = self.sync_one(TAKEN) {
+            self.told.fault("sync", TAKEN, &error);
+        }
         Ok(Kind::File)
     }
 
     /// Makes the folder of those that were taken, where it is not there. It fails where a document of that name stands in it
-    /// that is not handled: that one comes first.
+    /// already: that one comes first.
     fn make_place(&mut self, name: &str) -> io::Result<()> {
         if make_folder(self.rt, self.target.below(TAKEN)?)? {
-            self.sync("");
+            if let Err(error) = self.sync_one("") {
+                self.told.fault("sync", "", &error);
+            }
         }
         let target = self.target.entry(TAKEN, name)?;
-        if kind_of(self.rt, target)? == Kind::Nothing || self.is_left(name) {
+        if kind_of(self.rt, target)? == Kind::Nothing {
             Ok(())
         } else {
             Err(io::Error::from(ErrorKind::AlreadyExists))
         }
     }
 
-    fn is_left(&self, name: &str) -> bool {
-        self.left.iter().any(|left| left.as_str() == name)
-    }
-
-    /// The bytes of a document that was taken. What is no file there, or cannot be read now, is passed over: it goes back into
-    /// the inbox where that can be.
-    pub(crate) fn read(&mut self, alloc: Global, name: &str) -> io::Result<Option<Bytes>>
-        ensures { IfOk result (λ found. IfSome found (λ bytes. length bytes ≤ 524289)) }
+    /// The bytes of a document that was taken. What is no file there, or cannot be read now, is told.
+    fn read(&mut self, alloc: Global, name: &str, most: usize) -> io::Result<Option<Bytes>>
+        ensures { IfOk result (λ found. IfSome found (λ bytes. length bytes ≤ most)) }
     {
-        match self.try_read(alloc, name) {
-            Ok(bytes) => return Ok(Some(bytes)),
-            Err(error) if error.kind() == ErrorKind::NotFound => return Ok(None),
-            Err(error) if error.kind() == ErrorKind::OutOfMemory => return Err(error),
-            Err(error) => self.told.pass_over_for(TAKEN, name, &error),
+        match self.try_read(alloc, name, most) {
+            Ok(bytes) => {
+                self.told.tell(&Event::Taken {
+                    name,
+                    bytes: bytes.len(),
+                });
+                Ok(Some(bytes))
+            }
+            Err(error) if error.kind() == ErrorKind::NotFound => Ok(None),
+            Err(error) if error.kind() == ErrorKind::OutOfMemory => Err(error),
+            Err(error) => {
+                self.told.pass_over_for(TAKEN, name, &error);
+                Ok(None)
+            }
         }
-        let _stays = self.put_back(name);
-        Ok(None)
     }
 
-    fn try_read(&mut self, alloc: Global, name: &str) -> io::Result<Bytes>
-        ensures { IfOk result (λ bytes. length bytes ≤ 524289) }
+    fn try_read(&mut self, alloc: Global, name: &str, most: usize) -> io::Result<Bytes>
+        ensures { IfOk result (λ bytes. length bytes ≤ most) }
     {
         let path = self.paths.entry(TAKEN, name)?;
         match kind_of(self.rt, path)? {
-            Kind::File => read_prefix(alloc, self.rt, path, MOST_GIVEN),
+            Kind::File => read_prefix(alloc, self.rt, path, most),
             Kind::Nothing => Err(io::Error::from(ErrorKind::NotFound)),
             Kind::Other => Err(io::Error::from(ErrorKind::InvalidInput)),
         }
@@ -211,28 +224,24 @@ impl<'a, R: Files<File = File> + Clock + AllocGlobal> Tray<'a, R> {
 
     /// Puts what was taken back under its name. It gets that name beside the one that it has, which fails where something came
     /// there meanwhile: to rename it would put it in the place of that.
-    fn put_back(&mut self, name: &str) -> io::Result<()> {
+    fn put_file_back(&mut self, name: &str) -> io::Result<()> {
         let target = self.target.entry(INBOX, name)?;
         let path = self.paths.entry(TAKEN, name)?;
         fs::hard_link(self.rt, path, target)?;
         fs::remove_file(self.rt, path)
     }
 
-    /// Takes away a document that was handled. Where that cannot be it is passed over from here on.
-    pub(crate) fn put_away(&mut self, name: String) {
-        match self.try_put_away(name.as_str()) {
-            Ok(()) => self.told.tell(&Event::Done {
-                name: name.as_str(),
+    /// Takes away a document that was handled.
+    fn put_away(&mut self, name: &str) -> io::Result<()> {
+        let put = self.try_put_away(name);
+        match &put {
+            Ok(()) => self.told.tell(&Event::Done { name }),
+            Err(error) => self.told.tell(&Event::NotRemoved {
+                path: self.paths.last(),
+                error,
             }),
-            Err(error) => {
-                self.told.tell(&Event::NotRemoved {
-                    path: self.paths.last(),
-                    error: &error,
-                });
-                // There is room for it. A document that was not remembered would only come once more.
-                let _kept = self.left.push(name);
-            }
         }
+        put
     }
 
     fn try_put_away(&mut self, name: &str) -> io::Result<()> {
@@ -240,11 +249,9 @@ impl<'a, R: Files<File = File> + Clock + AllocGlobal> Tray<'a, R> {
             return Ok(());
         }
         match fs::remove_file(self.rt, self.paths.entry(TAKEN, name)?) {
-            Ok(()) => self.sync(TAKEN),
-            Err(error) if error.kind() == ErrorKind::NotFound => {}
-            Err(error) => return Err(error),
+            Err(error) if error.kind() == ErrorKind::NotFound => Ok(()),
+            answer => answer,
         }
-        Ok(())
     }
 
     /// Keeps a document that was handled, where there is a folder for that on the same file system. Answers whether there is.
@@ -259,20 +266,149 @@ impl<'a, R: Files<File = File> + Clock + AllocGlobal> Tray<'a, R> {
             Err(error) if error.kind() == ErrorKind::NotFound => return Ok(false),
             Err(error) => return Err(error),
         }
-        self.sync(HANDLED);
-        self.sync(TAKEN);
         Ok(true)
     }
 
-    /// Makes stable what stands in the folder. Where that fails a document may come once more, which its id answers.
-    fn sync(&mut self, folder: &str) {
-        if let Err(error) = self.try_sync(folder) {
-            self.told.fault("sync", folder, &error);
+    /// Makes stable what stands in the folders that documents are moved to.
+    fn sync_all(&mut self) -> io::Result<()> {
+        self.sync_one(HANDLED)?;
+        self.sync_one(TAKEN)
+    }
+
+    fn sync_one(&mut self, folder: &str) -> io::Result<()> {
+        sync_folder(self.rt, self.target.below(folder)?)
+    }
+}
+
+impl<'a, R: Files<File = File> + Clock + AllocGlobal> SystemTray<'a, R> {
+    pub fn new(rt: &'a R, root: &'a str) -> Result<Self, NoMemory>
+        ensures faults { IfOk result (λ tray. tray_faults tray ≡ 0) }
+        ensures missed { IfOk result (λ tray. tray_missed tray ≡ 0) }
+    {
+        Ok(SystemTray {
+            documents: Documents::new(rt, root)?,
+            faults: 0,
+            missed: 0,
+        })
+    }
+
+    /// Counts what was missed.
+    fn counted(&mut self, answer: io::Result<()>) -> Result<(), FolderFault>
+        ensures cause { HasCause (tray_missed self.old) (tray_missed self.new) result }
+        ensures quiet { OnOk result (tray_missed self.new ≡ tray_missed self.old) }
+        ensures others { tray_faults self.new ≡ tray_faults self.old }
+    {
+        match answer {
+            Ok(()) => Ok(()),
+            Err(_) => {
+                self.missed = self.missed.saturating_add(1);
+                Err(FolderFault::Failed)
+            }
+        }
+    }
+}
+
+/// The names, without taking memory for their texts.
+fn names_of(alloc: Global, names: Vec<String>) -> Result<List<Bytes>, NoMemory> {
+    let mut all = Vec::with_capacity(alloc, names.len())?;
+    for name in names {
+        all.push(Bytes::new(name.into_bytes()))?;
+    }
+    Ok(List::new(all))
+}
+
+/// The answer, where only want of memory is an error.
+fn or_memory<T: Drop>(answer: io::Result<T>, otherwise: T) -> Result<T, NoMemory> {
+    match answer {
+        Ok(value) => Ok(value),
+        Err(error) if error.kind() == ErrorKind::OutOfMemory => Err(NoMemory),
+        Err(_) => Ok(otherwise),
+    }
+}
+
+impl<'a, R: Files<File = File> + Clock + AllocGlobal> Tray for SystemTray<'a, R> {
+    ghost history = { λ tray. None };
+
+    ghost faults = { λ tray. tray_faults tray };
+
+    ghost missed = { λ tray. tray_missed tray };
+
+    fn list(&mut self, alloc: Global) -> Result<List<Bytes>, FolderFault> {
+        match self.documents.list_inbox() {
+            Ok(names) => match names_of(alloc, names) {
+                Ok(names) => Ok(names),
+                Err(NoMemory) => Err(FolderFault::NoMemory),
+            },
+            Err(error) if error.kind() == ErrorKind::OutOfMemory => Err(FolderFault::NoMemory),
+            Err(error) => {
+                self.documents
+                    .told
+                    .fault("next", self.documents.paths.last(), &error);
+                self.faults = self.faults.saturating_add(1);
+                Err(FolderFault::Failed)
+            }
         }
     }
 
-    fn try_sync(&mut self, folder: &str) -> io::Result<()> {
-        sync_folder(self.rt, self.target.below(folder)?)
+    fn list_taken(&mut self, alloc: Global) -> Result<List<Bytes>, NoMemory> {
+        match self.documents.list_kept() {
+            Ok(names) => names_of(alloc, names),
+            Err(_) => Err(NoMemory),
+        }
+    }
+
+    fn is_file(&mut self, name: &[u8]) -> Result<bool, NoMemory> {
+        let found = self.documents.has_file(name);
+        or_memory(found, false)
+    }
+
+    fn take(&mut self, name: &[u8]) -> Result<bool, NoMemory> {
+        match text_of(name) {
+            Ok(text) => {
+                let took = self.documents.take_file(text);
+                or_memory(took, false)
+            }
+            Err(_) => Ok(false),
+        }
+    }
+
+    fn open(&mut self, alloc: Global, name: &[u8], most: usize) -> Result<Option<Bytes>, NoMemory> {
+        let Ok(text) = text_of(name) else {
+            return Ok(None);
+        };
+        match self.documents.read(alloc, text, most) {
+            Ok(found) => Ok(found),
+            Err(_) => Err(NoMemory),
+        }
+    }
+
+    fn put_back(&mut self, name: &[u8]) -> Result<bool, NoMemory> {
+        match text_of(name) {
+            Ok(text) => match self.documents.put_file_back(text) {
+                Ok(()) => Ok(true),
+                Err(error) if error.kind() == ErrorKind::OutOfMemory => Err(NoMemory),
+                Err(_) => Ok(false),
+            },
+            Err(_) => Ok(false),
+        }
+    }
+
+    fn end(&mut self, name: &[u8]) -> Result<(), FolderFault> {
+        let ended = match text_of(name) {
+            Ok(text) => self.documents.put_away(text),
+            Err(error) => Err(error),
+        };
+        self.counted(ended)
+    }
+
+    fn sync(&mut self) -> Result<(), FolderFault> {
+        let synced = self.documents.sync_all();
+        if let Err(error) = &synced {
+            self.documents
+                .told
+                .fault("sync", self.documents.target.last(), error);
+        }
+        self.counted(synced)
     }
 }
 
