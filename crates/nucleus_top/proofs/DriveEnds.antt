@@ -35,7 +35,7 @@ use Rattle.nucleus_top.specs.Inits.{IsRefusedAt}
 use Rattle.nucleus_top.specs.Opening.{IsImageOf, StandsForNone}
 use Rattle.nucleus_top.specs.Planning.{IsFound, IsPending}
 use Rattle.nucleus_top.specs.declared.answer.Answer.{Answer}
-use Rattle.nucleus_top.specs.declared.answer.Answer.TheVariants.{Unplanned, Pending, DiskFailed, SourceFailed, NotInitialised, Damaged, NoMemory}
+use Rattle.nucleus_top.specs.declared.answer.Answer.TheVariants.{Unplanned, Pending, DiskFailed, SourceFailed, NotInitialised, Damaged, Unreadable, NoMemory}
 use Rattle.nucleus_top.proofs.Standing.{none_stands, same_device}
 use Rattle.nucleus_top.proofs.Unrefused.{may_refuse, of_refusal}
 
@@ -177,6 +177,7 @@ module _ (store : Store) (input : Input) (printed : Printed) (result : Status) w
   damaged : (a : Answer) → MayNotDeploy store input a → IsPrinted printed result a → result ≡ status.Damaged → (place : List ℕ) × IsRefusedAt store place ×
       HasPrinted printed (damaged_line place)
   damaged (Damaged place) why (inl told) is = (place, why, told.1)
+  damaged (Unreadable text) why (inl told) is = absurd why
   damaged (Unplanned r text) why (inl told) is = absurd why
   damaged a why (inl told) is = cc
   damaged a why (inr told) is = cc

@@ -19,7 +19,7 @@ use Rattle.why_not.specs.Texts.{why_bytes}
 use Rattle.nucleus_top.specs.declared.answer.Answer.{Answer}
 use Rattle.nucleus_top.specs.declared.answer.Answer.TheVariants.{Made, Shown, Planned, Unplanned, Whole, Differs, Pending, WrongWords, DiskFailed}
 use Rattle.nucleus_top.specs.declared.answer.Answer.TheVariants.{SourceFailed, LibraryFailed, NotInitialised, Damaged, Initialised}
-use Rattle.nucleus_top.specs.declared.answer.Answer.TheVariants.{NoMemory, Possible, Impossible, Got, Absent, Drawn}
+use Rattle.nucleus_top.specs.declared.answer.Answer.TheVariants.{NoMemory, Possible, Impossible, Got, Absent, Drawn, Unreadable}
 
 abbrev pub status_of : Answer → Status
 status_of (Made thing) = status.Done
@@ -40,6 +40,7 @@ status_of SourceFailed = status.Edge
 status_of LibraryFailed = status.Library
 status_of NotInitialised = status.NotInitialised
 status_of (Damaged place) = status.Damaged
+status_of (Unreadable text) = status.Damaged
 status_of (Initialised thing) = status.Initialised
 status_of NoMemory = status.Memory
 
@@ -90,6 +91,7 @@ lines_of SourceFailed = codes "fault 6 source\n"
 lines_of LibraryFailed = library_line
 lines_of NotInitialised = none_line
 lines_of (Damaged place) = damaged_line place
+lines_of (Unreadable text) = text
 lines_of (Initialised thing) = initialised_line thing
 lines_of NoMemory = codes ""
 

@@ -8,11 +8,14 @@ use Rattle.device.specs.Devices.{Device}
 use Rattle.nucleus_top.specs.Opening.{IsImageOf}
 use Rattle.command_words.specs.declared.order.Order.{Order}
 use Rattle.command_words.specs.declared.order.Order.TheVariants.{Init, Status as Show, Plan, Audit, ConfigGet, Why as AskWhy, Workload}
+use Rattle.command_words.specs.declared.order.Order.TheVariants.{Components, About, Deploy, Resume, Serve, Local, ConfigSet}
 use Rattle.nucleus_top.specs.Words.{AsksOrder, AsksNothing}
 use Rattle.nucleus_top.specs.Answers.{Store, Input, Shelf, Printed, IsUnchanged, HasRisen, IsQuiet, IsStill, IsCutShort, HasPrinted}
 use Rattle.nucleus_top.specs.Answers.{IsOrEdgeOrMemory, usage_line}
 use Rattle.nucleus_top.specs.Answers.{library_line}
+use Rattle.nucleus_top.specs.Abouts.{AboutAnswer, AboutParts}
 use Rattle.nucleus_top.specs.Audits.{AuditAnswer, AuditParts}
+use Rattle.nucleus_top.specs.Components.{ComponentsAnswer, ComponentsParts}
 use Rattle.nucleus_top.specs.Gets.{GetAnswer, GetParts}
 use Rattle.nucleus_top.specs.Inits.{InitAnswer, InitParts}
 use Rattle.nucleus_top.specs.Planning.{PlanAnswer, PlanParts}
@@ -22,34 +25,45 @@ use Rattle.nucleus_top.specs.Workloads.{WorkloadAnswer, WorkloadParts}
 use Rattle.nucleus_top.specs.declared.answer.Answer.{Answer}
 use Rattle.nucleus_top.specs.declared.answer.Answer.TheVariants.{WrongWords, SourceFailed, NoMemory}
 
--- why an answer of a command comes
-abbrev pub OrderAnswer : Order → Store → Input → Shelf → Answer → Type 0
-OrderAnswer (Init origin) store input library = InitAnswer origin store
-OrderAnswer (Show json) store input library = StatusAnswer json store
-OrderAnswer Plan store input library = PlanAnswer store input library
-OrderAnswer Audit store input library = AuditAnswer store
-OrderAnswer (ConfigGet name at) store input library = GetAnswer name at store
-OrderAnswer (Workload seed) store input library = WorkloadAnswer seed store
-OrderAnswer AskWhy store input library = WhyAnswer store input library
-OrderAnswer _ store input library = λ answer. ⊥
+-- no answer is another command's
+abbrev pub AnswersNone : Answer → Type 0
+AnswersNone answer = ⊥
+
+-- why an answer of a command comes, of a program of this version
+abbrev pub OrderAnswer : List ℕ → Order → Store → Input → Shelf → Answer → Type 0
+OrderAnswer version (Init origin) store input library = InitAnswer origin store
+OrderAnswer version (Show json) store input library = StatusAnswer json store
+OrderAnswer version Plan store input library = PlanAnswer store input library
+OrderAnswer version Audit store input library = AuditAnswer store
+OrderAnswer version (ConfigGet name at) store input library = GetAnswer name at store
+OrderAnswer version (Workload seed) store input library = WorkloadAnswer seed store
+OrderAnswer version AskWhy store input library = WhyAnswer store input library
+OrderAnswer version Components store input library = ComponentsAnswer store
+OrderAnswer version About store input library = AboutAnswer version store
+OrderAnswer version Deploy store input library = AnswersNone
+OrderAnswer version Resume store input library = AnswersNone
+OrderAnswer version (Serve turns) store input library = AnswersNone
+OrderAnswer version Local store input library = AnswersNone
+OrderAnswer version (ConfigSet name) store input library = AnswersNone
 
 -- Why an answer comes, of words that drive no deployment: by the command that they ask, since they ask none, or for want of memory.
-abbrev pub WordsAnswer : List (List ℕ) → Store → Input → Shelf → Answer → Type 0
-WordsAnswer words store input library answer =
-    ((order : Order) × AsksOrder words order × OrderAnswer order store input library answer)
+abbrev pub WordsAnswer : List ℕ → List (List ℕ) → Store → Input → Shelf → Answer → Type 0
+WordsAnswer version words store input library answer =
+    ((order : Order) × AsksOrder words order × OrderAnswer version order store input library answer)
     ⊎ ((answer ≡ WrongWords) × AsksNothing words × IsUnchanged store)
     ⊎ ((answer ≡ NoMemory) × IsUnchanged store)
 
 -- the source failed in its turn, where nothing that is asked before it had answered, and that was printed
-pub record IsSourceFault (words : List (List ℕ)) (store : Store) (input : Input) (library : Shelf) (printed : Printed) : Type 0 where
-  pub comes : WordsAnswer words store input library SourceFailed
+pub record IsSourceFault (version : List ℕ) (words : List (List ℕ)) (store : Store) (input : Input) (library : Shelf) (printed : Printed) : Type 0 where
+  pub comes : WordsAnswer version words store input library SourceFailed
   pub rose : Rose input.faults_before input.faults_after
   pub line : HasPrinted printed (codes "fault 6 source\n")
   pub disk_stays : store.faults_after ≡ store.faults_before
   pub library_stays : library.faults_after ≡ library.faults_before
   pub sink_stays : printed.faults_after ≡ printed.faults_before
 
-pub record Parts (words : List (List ℕ)) (store : Store) (input : Input) (library : Shelf) (printed : Printed) (result : Status) : Type 0 where
+pub record Parts (version : List ℕ) (words : List (List ℕ)) (store : Store) (input : Input) (library : Shelf) (printed : Printed)
+    (result : Status) : Type 0 where
   -- 1 comes exactly where the words ask no command.
   pub usage : result ≡ status.Usage → AsksNothing words × IsUnchanged store × HasPrinted printed usage_line
   pub usage_comes : AsksNothing words → IsOrEdgeOrMemory result status.Usage
@@ -59,8 +73,9 @@ pub record Parts (words : List (List ℕ)) (store : Store) (input : Input) (libr
   -- 6 comes exactly where the count of the source or the sink rose. The source's fault comes in its turn
   -- and is printed whole, and the other counts stay. Where the sink failed, a prefix was printed of the lines of an answer that comes by its cause, leaves
   -- what it leaves and counts no fault but its own.
-  pub edge : result ≡ status.Edge → IsSourceFault words store input library printed
-      ⊎ ((answer : Answer) × WordsAnswer words store input library answer × IsQuiet store input answer × IsStill library answer × IsCutShort printed answer)
+  pub edge : result ≡ status.Edge → IsSourceFault version words store input library printed
+      ⊎ ((answer : Answer) × WordsAnswer version words store input library answer × IsQuiet store input answer × IsStill library answer ×
+      IsCutShort printed answer)
   pub edges_stay : result ≢ status.Edge → (input.faults_after ≡ input.faults_before) × (printed.faults_after ≡ printed.faults_before)
   -- 7 comes exactly where the library's count rose, unless the sink fails besides.
   pub library_failed : result ≡ status.Library → Rose library.faults_before library.faults_after × HasPrinted printed library_line
@@ -77,3 +92,5 @@ pub record Parts (words : List (List ℕ)) (store : Store) (input : Input) (libr
   pub config_get : (name : List ℕ) (at : List (List ℕ)) → AsksOrder words (ConfigGet name at) → GetParts name at store printed result
   pub workload : (seed : ℕ) → AsksOrder words (Workload seed) → WorkloadParts seed store printed result
   pub why : AsksOrder words AskWhy → WhyParts store input library printed result
+  pub components : AsksOrder words Components → ComponentsParts store printed result
+  pub about : AsksOrder words About → AboutParts version store printed result

@@ -1,4 +1,4 @@
-// The commands that drive no component: `init`, `status`, `plan`, `audit`, `config-get`, `why` and `workload`.
+// The commands that drive no component: `init`, `status`, `plan`, `audit`, `config-get`, `why`, `components`, `about` and `workload`.
 ghost use Rattle.std.specs.Prelude.{◌≡◌, ◌≢◌, ◌≤◌, ℕ, List, map, string_bytes, IsTrue};
 ghost use Rattle.disk_model.specs.Disk.{HasLeft};
 ghost use Rattle.nuc_base.specs.declared.status.Status.TheVariants as status;
@@ -10,8 +10,10 @@ ghost use Rattle.nucleus_top.specs.Answers.{store_over, input_over, shelf_over, 
 ghost use Rattle.nucleus_top.specs.Leaving.{IsDurable, IsDurableIfDone, MayLeave, files_of};
 ghost use Rattle.nucleus_top.specs.Parts.{WordsAnswer, Parts};
 
+use crate::about::about;
 use crate::answer::Answer;
 use crate::auditing::audit;
+use crate::components::components;
 use crate::config_getting::get;
 use crate::init::init;
 use crate::planning::plan;
@@ -29,12 +31,13 @@ use std::alloc::Global;
 #[tactic(auto, using(crate::proofs::Reading::reads_none))]
 fn answer<D: Disk, L: Library, S: Source>(
     alloc: Global,
+    version: &str,
     words: &Vec<String>,
     disk: &mut D,
     library: &mut L,
     source: &mut S,
 ) -> Answer
-    ensures comes { WordsAnswer (map string_bytes words.now.items) (store_over D.Disk disk.old disk.new)
+    ensures comes { WordsAnswer version.now (map string_bytes words.now.items) (store_over D.Disk disk.old disk.new)
         (input_over S.Source source.old source.new) (shelf_over L.Library library.old library.new) result }
     ensures quiet { IsQuiet (store_over D.Disk disk.old disk.new) (input_over S.Source source.old source.new) result }
     ensures still { IsStill (shelf_over L.Library library.old library.new) result }
@@ -69,6 +72,8 @@ fn answer<D: Disk, L: Library, S: Source>(
         Order::ConfigGet(name, at) => get(alloc, &name, &at, disk),
         Order::Workload(seed) => draw_workload(alloc, seed),
         Order::Why => why(alloc, disk, library, source),
+        Order::Components => components(alloc, disk),
+        Order::About => about(alloc, version, disk),
         // These drive components: they are dispatched before.
         Order::Deploy | Order::Resume | Order::Serve(_) | Order::Local | Order::ConfigSet(_) =>
             Answer::WrongWords,
@@ -79,13 +84,14 @@ fn answer<D: Disk, L: Library, S: Source>(
 /// ends with. Words that ask another command are wrong words here.
 pub(crate) fn look<D: Disk, L: Library, S: Source, K: Sink>(
     alloc: Global,
+    version: &str,
     words: &Vec<String>,
     disk: &mut D,
     library: &mut L,
     source: &mut S,
     sink: &mut K,
 ) -> Status
-    ensures parts { Parts (map string_bytes words.now.items) (store_over D.Disk disk.old disk.new)
+    ensures parts { Parts version.now (map string_bytes words.now.items) (store_over D.Disk disk.old disk.new)
         (input_over S.Source source.old source.new) (shelf_over L.Library library.old library.new)
         (printed_over K.Sink sink.old sink.new) result }
     // `plan` and `why` alone read from the source and ask the library.
@@ -110,7 +116,7 @@ pub(crate) fn look<D: Disk, L: Library, S: Source, K: Sink>(
     ensures sink_later { K.faults sink.old ≤ K.faults sink.new }
 {
     words_ask_one_thing();
-    let answer = answer(alloc, words, disk, library, source);
+    let answer = answer(alloc, version, words, disk, library, source);
     let status = answer.tell(sink);
     drop(answer);
     status

@@ -40,10 +40,12 @@ use step_runner::Runner;
 /// device with the recipes of the library, `plan NAME VERSION` for each component and `boot NAME` for each bootstrap, or
 /// the first reason why it would not. `nucleus --root DIR why` makes the same checks up to the set, and prints `possible` where
 /// some set of the candidates is valid, or else why none is. `nucleus --root DIR config-get --component NAME`, with
-/// `--pointer P` or without, prints a node of a component's configuration. `nucleus --root DIR audit` compares the files of the device's artifacts with the
-/// digests that are kept, and prints `whole` or the first file that differs. `nucleus --root DIR workload --seed N` runs 32 deployments that are drawn from
-/// the seed over objects in memory, by what `deploy` does, and prints how they closed: it touches the sink alone. The clause `parts` says of these when each
-/// status comes, what it prints and what it leaves on the disk.
+/// `--pointer P` or without, prints a node of a component's configuration. `nucleus --root DIR audit` compares the files of the
+/// device's artifacts with the digests that are kept, and prints `whole` or the first file that differs. `nucleus --root DIR
+/// components` prints `component NAME VERSION STOPPED` for each component of the set. `nucleus --root DIR about` prints what the
+/// program is, whose version the caller gives, and what the store is, where there is one. `nucleus --root DIR workload --seed N`
+/// runs 32 deployments that are drawn from the seed over objects in memory, by what `deploy` does, and prints how they closed: it
+/// touches the sink alone. The clause `parts` says of these when each status comes, what it prints and what it leaves on the disk.
 ///
 /// `nucleus --root DIR deploy` reads one document from the source and deploys it: it prints `accepted ID` once the plan is
 /// stable, a line for each failure, and `closed ID OUTCOME`; or the first reason why the document is not taken.
@@ -63,6 +65,7 @@ use step_runner::Runner;
 /// what happens, when the refusals of a journal come, and when 5 and 6. It reads nothing of the source.
 pub fn nucleus<D: Disk, L: Library, S: Source, I: Inbox, K: Sink, R: Runner>(
     alloc: Global,
+    version: &str,
     words: &Vec<String>,
     disk: &mut D,
     library: &mut L,
@@ -74,7 +77,7 @@ pub fn nucleus<D: Disk, L: Library, S: Source, I: Inbox, K: Sink, R: Runner>(
     // No child lives yet.
     requires none { R.living runner.old ≡ [] }
     ensures parts { (AsksToDrive (map string_bytes words.now.items) → ⊥) →
-        Parts (map string_bytes words.now.items) (store_over D.Disk disk.old disk.new)
+        Parts version.now (map string_bytes words.now.items) (store_over D.Disk disk.old disk.new)
         (input_over S.Source source.old source.new) (shelf_over L.Library library.old library.new)
         (printed_over K.Sink sink.old sink.new) result }
     // The commands that deploy what the source has, `plan` and `why` alone read from it. They and `serve` ask the library, but for a
@@ -148,7 +151,7 @@ pub fn nucleus<D: Disk, L: Library, S: Source, I: Inbox, K: Sink, R: Runner>(
         Asked::Deploy(what) => deploy(alloc, &what, disk, library, source, sink, runner),
         Asked::Resume => resume(alloc, disk, sink, runner),
         Asked::Serve(turns) => serve(alloc, turns, disk, library, inbox, sink, runner),
-        Asked::Other => look(alloc, words, disk, library, source, sink),
+        Asked::Other => look(alloc, version, words, disk, library, source, sink),
         Asked::NoMemory => Status::Memory,
     }
 }

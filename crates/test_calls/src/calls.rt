@@ -378,7 +378,7 @@ fn answer_from<D: Disk>(
 {
     let mut sink = MemorySink::new(alloc, numbers_of(alloc, failing)?);
     let status = nucleus(
-        alloc, words, disk, library, source, inbox, &mut sink, runner,
+        alloc, "1.0.0", words, disk, library, source, inbox, &mut sink, runner,
     );
     let text = told(alloc, status, sink.bytes());
     drop(sink);
