@@ -68,7 +68,7 @@ use Rattle.nucleus_top.specs.Drives.{MayNotRead, IsDeployed, IsDeployedOn, IsDri
 use Rattle.nucleus_top.specs.Drives.{IsUnread, IsUnswept, ask_of, shelf_for}
 use Rattle.nucleus_top.specs.Drives.{NamesPendingOf, StartsFrom, TellsSweep, TellsUnread, MayNotDeploy, MayNotOpen, MayNotOpenIdle, slots_start}
 use Rattle.nucleus_top.specs.Opening.{HasEntry, IsImageOf}
-use Rattle.nucleus_top.specs.Parts.{Parts}
+use Rattle.nucleus_top.specs.Parts.{Parts, Setting}
 use Rattle.nucleus_top.specs.Planning.{IsFound, NamesPending}
 use Rattle.nucleus_top.specs.Refusing.{NoDeviceAnswer, TellsFault}
 use Rattle.nucleus_top.specs.Words.{AsksOrder, DrivesNone}
@@ -738,12 +738,12 @@ pub asks_for : AsksOnce → (words : List (List ℕ)) (root : List ℕ) (order :
 asks_for once words root order a is same = subst (λ (x : Asked). AreWordsFor words x) (sym same) (asks_by once words root order is)
 
 -- Nothing is done where memory for the words is refused.
-module _ (version : List ℕ) (words : List (List ℕ)) (store : Store) (input : Input) (library : Shelf) (printed : Printed) (same : IsUnchanged store)
+module _ (setting : Setting) (words : List (List ℕ)) (store : Store) (input : Input) (library : Shelf) (printed : Printed) (same : IsUnchanged store)
     (disk : store.faults_after ≡ store.faults_before) (source : input.faults_after ≡ input.faults_before) (shelf : library.faults_after ≡ library.faults_before)
     (sink : printed.faults_after ≡ printed.faults_before) where
-  pub unread_parts : AsksOnce → HasPrinted printed [] → Parts version words store input library printed status.Memory
+  pub unread_parts : AsksOnce → HasPrinted printed [] → Parts setting words store input library printed status.Memory
   unread_parts once prints =
-      parts version words store input library printed status.Memory once NoMemory (inr (inr (refl, same)))
+      parts setting words store input library printed status.Memory once NoMemory (inr (inr (refl, same)))
       (record { disk = λ other. disk; source = λ other. source })
       (λ other. shelf) (inl (refl, prints, sink))
 

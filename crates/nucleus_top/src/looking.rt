@@ -8,7 +8,7 @@ ghost use Rattle.edges.specs.Reading.{ReadsUpTo};
 ghost use Rattle.nucleus_top.specs.Words.{AsksOrder};
 ghost use Rattle.nucleus_top.specs.Answers.{store_over, input_over, shelf_over, printed_over, IsQuiet, IsStill};
 ghost use Rattle.nucleus_top.specs.Leaving.{IsDurable, IsDurableIfDone, MayLeave, files_of};
-ghost use Rattle.nucleus_top.specs.Parts.{WordsAnswer, Parts};
+ghost use Rattle.nucleus_top.specs.Parts.{WordsAnswer, Parts, setting_of};
 
 use crate::about::about;
 use crate::answer::Answer;
@@ -37,7 +37,7 @@ fn answer<D: Disk, L: Library, S: Source>(
     library: &mut L,
     source: &mut S,
 ) -> Answer
-    ensures comes { WordsAnswer version.now (map string_bytes words.now.items) (store_over D.Disk disk.old disk.new)
+    ensures comes { WordsAnswer (setting_of version.now (D.writer disk.old)) (map string_bytes words.now.items) (store_over D.Disk disk.old disk.new)
         (input_over S.Source source.old source.new) (shelf_over L.Library library.old library.new) result }
     ensures quiet { IsQuiet (store_over D.Disk disk.old disk.new) (input_over S.Source source.old source.new) result }
     ensures still { IsStill (shelf_over L.Library library.old library.new) result }
@@ -91,7 +91,7 @@ pub(crate) fn look<D: Disk, L: Library, S: Source, K: Sink>(
     source: &mut S,
     sink: &mut K,
 ) -> Status
-    ensures parts { Parts version.now (map string_bytes words.now.items) (store_over D.Disk disk.old disk.new)
+    ensures parts { Parts (setting_of version.now (D.writer disk.old)) (map string_bytes words.now.items) (store_over D.Disk disk.old disk.new)
         (input_over S.Source source.old source.new) (shelf_over L.Library library.old library.new)
         (printed_over K.Sink sink.old sink.new) result }
     // `plan` and `why` alone read from the source and ask the library.

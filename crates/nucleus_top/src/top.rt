@@ -13,7 +13,7 @@ ghost use Rattle.nucleus_top.specs.Drives.{MayNotOpen};
 ghost use Rattle.nucleus_top.specs.Words.{AsksOrder};
 ghost use Rattle.nucleus_top.specs.Answers.{store_over, input_over, shelf_over, printed_over};
 ghost use Rattle.nucleus_top.specs.Leaving.{IsDurable, MayLeave, files_of};
-ghost use Rattle.nucleus_top.specs.Parts.{Parts};
+ghost use Rattle.nucleus_top.specs.Parts.{Parts, setting_of};
 ghost use Rattle.nucleus_top.specs.Serving.{IsServed};
 ghost use Rattle.checkpoint_log.specs.Slots.{slots_files};
 ghost use Rattle.session_serving.specs.Causes.{IsCaused, observation};
@@ -42,9 +42,10 @@ use step_runner::Runner;
 /// some set of the candidates is valid, or else why none is. `nucleus --root DIR config-get --component NAME`, with
 /// `--pointer P` or without, prints a node of a component's configuration. `nucleus --root DIR audit` compares the files of the
 /// device's artifacts with the digests that are kept, and prints `whole` or the first file that differs. `nucleus --root DIR
-/// components` prints `component NAME VERSION STOPPED` for each component of the set. `nucleus --root DIR about` prints what the
-/// program is, whose version the caller gives, and what the store is, where there is one. `nucleus --root DIR workload --seed N`
-/// runs 32 deployments that are drawn from the seed over objects in memory, by what `deploy` does, and prints how they closed: it
+/// components` prints what another program says of the components that it runs, or `component NAME VERSION STOPPED` for each of
+/// the set. `nucleus --root DIR about` prints what the program is, whose version the caller gives, and what the store is, where
+/// there is one. `nucleus --root DIR workload --seed N` runs 32 deployments that are drawn from the seed over objects in memory,
+/// by what `deploy` does, and prints how they closed: it
 /// touches the sink alone. The clause `parts` says of these when each status comes, what it prints and what it leaves on the disk.
 ///
 /// `nucleus --root DIR deploy` reads one document from the source and deploys it: it prints `accepted ID` once the plan is
@@ -77,7 +78,7 @@ pub fn nucleus<D: Disk, L: Library, S: Source, I: Inbox, K: Sink, R: Runner>(
     // No child lives yet.
     requires none { R.living runner.old ≡ [] }
     ensures parts { (AsksToDrive (map string_bytes words.now.items) → ⊥) →
-        Parts version.now (map string_bytes words.now.items) (store_over D.Disk disk.old disk.new)
+        Parts (setting_of version.now (D.writer disk.old)) (map string_bytes words.now.items) (store_over D.Disk disk.old disk.new)
         (input_over S.Source source.old source.new) (shelf_over L.Library library.old library.new)
         (printed_over K.Sink sink.old sink.new) result }
     // The commands that deploy what the source has, `plan` and `why` alone read from it. They and `serve` ask the library, but for a

@@ -1,5 +1,7 @@
-// What the program, its store and its components are, by the top call over stores in memory that nobody serves.
-use crate::plans::is_row;
+// What the program, its store and its components are, by the top call over stores in memory.
+use crate::calls::answer;
+use crate::plans::{holding, is_row, library_of, source_of};
+use disk_model::{Disk, DiskFault, MemoryDisk};
 use std::alloc::Global;
 use std::test::Fail;
 
@@ -48,5 +50,61 @@ fn first_wrong(alloc: Global) -> Result<&'static str, Fail> {
 #[test]
 fn a_store_is_looked_at(rt: HostRuntime) -> Result<(), Fail> {
     assert_eq!(rt; first_wrong(rt.alloc())?, "");
+    Ok(())
+}
+
+/// What a program that runs a component says of it.
+const VIEW: &[u8] =
+    b"serving 7 2026-12-01T00:00:00.000Z\ncomponent C 1.0.0 RUNNING 0 2026-12-01T00:00:01.000Z\n";
+
+/// The same as it is printed, behind the status.
+const VIEWED: &str =
+    "0|serving 7 2026-12-01T00:00:00.000Z;component C 1.0.0 RUNNING 0 2026-12-01T00:00:01.000Z;";
+
+const NONE: &str = "8|refused 8 NotInitialised;";
+
+/// Writes what a program says, and whether it still holds the lock.
+fn run_by(disk: &mut MemoryDisk, view: &[u8], has_writer: bool) -> Result<(), DiskFault> {
+    disk.write_at("running", 0, view)?;
+    disk.set_writer(has_writer);
+    Ok(())
+}
+
+/// Whether `components` over this disk prints this.
+fn lists(alloc: Global, disk: &mut MemoryDisk, want: &str) -> Result<bool, Fail> {
+    let mut library = library_of(alloc, "X 1.0.0", &[])?;
+    let mut source = source_of(alloc, "", &[])?;
+    let text = answer(
+        alloc,
+        "nucleus --root /gg components",
+        disk,
+        &mut library,
+        &mut source,
+    );
+    drop(source);
+    drop(library);
+    let text = text?;
+    let is_right = text.as_str() == want;
+    drop(text);
+    Ok(is_right)
+}
+
+/// The same of a disk without a store, with this view of a program that holds the lock or not.
+fn lists_by(alloc: Global, view: &[u8], has_writer: bool, want: &str) -> Result<bool, Fail> {
+    let mut disk = holding(alloc, b"")?;
+    let run = run_by(&mut disk, view, has_writer);
+    let is_right = lists(alloc, &mut disk, want);
+    drop(disk);
+    run?;
+    is_right
+}
+
+#[test]
+fn components_are_told_by_who_runs_them(rt: HostRuntime) -> Result<(), Fail> {
+    let alloc = rt.alloc();
+    assert!(rt; lists_by(alloc, VIEW, true, VIEWED)?);
+    assert!(rt; lists_by(alloc, VIEW, false, NONE)?);
+    assert!(rt; lists_by(alloc, b"", true, NONE)?);
+    assert!(rt; lists_by(alloc, b"\xff", true, NONE)?);
     Ok(())
 }
