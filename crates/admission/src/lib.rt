@@ -10,6 +10,7 @@
 mod ask;
 mod fault;
 mod laws;
+mod posted;
 mod requests;
 mod takes;
 mod unasked;
@@ -17,6 +18,7 @@ mod unasked;
 pub use ask::Ask;
 pub use fault::Declined;
 pub use laws::plans_are_met;
+pub use posted::{Posted, RequestKey, make_posted};
 pub use requests::make_document;
 pub use takes::take_in;
 pub use unasked::Unasked;

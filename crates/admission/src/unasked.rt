@@ -1,3 +1,4 @@
+use crate::posted::RequestKey;
 use local_deploy::LocalFault;
 use nuc_base::Name;
 
@@ -16,4 +17,6 @@ pub enum Unasked {
     NoComponent(Name),
     /// No group requires the component of this name: it runs because another one needs it.
     NotListed(Name),
+    /// It stands in the place of a document, is meant as the request of this key, and has another shape.
+    Misshaped(RequestKey),
 }

@@ -78,6 +78,7 @@ of_ending (ByDecline (Unasked (unasked.TooManyLocal count))) = refl
 of_ending (ByDecline (Unasked (unasked.Unlisted name))) = refl
 of_ending (ByDecline (Unasked (unasked.NoComponent name))) = refl
 of_ending (ByDecline (Unasked (unasked.NotListed name))) = refl
+of_ending (ByDecline (Unasked (unasked.Misshaped key))) = refl
 of_ending (Full at) = refl
 of_ending Idle = refl
 

@@ -90,6 +90,7 @@ module _ (d : Device) (o : Origin) (name bytes : List ℕ) where
   of_declined (Unasked (unasked.Unlisted c)) keeps never = refl
   of_declined (Unasked (unasked.NoComponent c)) keeps never = refl
   of_declined (Unasked (unasked.NotListed c)) keeps never = refl
+  of_declined (Unasked (unasked.Misshaped key)) keeps never = refl
 
   of_taken : (start : ℕ → ℕ) (taken : Result code.Plan Declined) (ending : Ending) (records : List Record) → TakenEnding start taken ending records
       → KeepsAll d o name bytes taken → (HasLibraryFailed taken → ⊥) → three (status_of_ending ending) ≡ false

@@ -194,6 +194,7 @@ declined_no_restart (Unasked (unasked.TooManyLocal count)) = refl
 declined_no_restart (Unasked (unasked.Unlisted name)) = refl
 declined_no_restart (Unasked (unasked.NoComponent name)) = refl
 declined_no_restart (Unasked (unasked.NotListed name)) = refl
+declined_no_restart (Unasked (unasked.Misshaped key)) = refl
 
 pub no_restart : (status given : Status) → IsOrEdge status given → is_restart given ≡ false → is_restart status ≡ false
 no_restart status given (inl same) other = ap is_restart same ∙ other
@@ -224,6 +225,7 @@ declined_disk (Unasked (unasked.TooManyLocal count)) is = absurd cc
 declined_disk (Unasked (unasked.Unlisted name)) is = absurd cc
 declined_disk (Unasked (unasked.NoComponent name)) is = absurd cc
 declined_disk (Unasked (unasked.NotListed name)) is = absurd cc
+declined_disk (Unasked (unasked.Misshaped key)) is = absurd cc
 
 pub disk_declined : (d : Declined) → HasDiskFailed (Err d) → status_of_declined d ≡ statuses.Disk
 disk_declined (Refused r) failed = absurd failed
@@ -244,6 +246,7 @@ declined_library (Unasked (unasked.TooManyLocal count)) is = absurd cc
 declined_library (Unasked (unasked.Unlisted name)) is = absurd cc
 declined_library (Unasked (unasked.NoComponent name)) is = absurd cc
 declined_library (Unasked (unasked.NotListed name)) is = absurd cc
+declined_library (Unasked (unasked.Misshaped key)) is = absurd cc
 
 pub library_declined : (d : Declined) → HasLibraryFailed (Err d) → status_of_declined d ≡ statuses.Library
 library_declined (Refused r) failed = ap (λ (x : Refusal). status_of_refusal x) failed
@@ -303,6 +306,7 @@ unasked_inside d u same (inl disk) = by u (sym (ap status_of_declined same) ∙ 
     by (unasked.Unlisted name) is = cc
     by (unasked.NoComponent name) is = cc
     by (unasked.NotListed name) is = cc
+    by (unasked.Misshaped key) is = cc
 unasked_inside d u same (inr library) = by u (sym (ap status_of_declined same) ∙ library)
   where
     by : (u : Reason) → status_of_declined (Unasked u) ≡ statuses.Library → ⊥
@@ -312,3 +316,4 @@ unasked_inside d u same (inr library) = by u (sym (ap status_of_declined same) �
     by (unasked.Unlisted name) is = cc
     by (unasked.NoComponent name) is = cc
     by (unasked.NotListed name) is = cc
+    by (unasked.Misshaped key) is = cc

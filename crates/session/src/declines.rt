@@ -7,10 +7,11 @@ ghost use Rattle.refusal_lines.specs.Lines.{refusal_line};
 ghost use Rattle.session.specs.Calls.{IsOrEdge, SaysLine, SaysRefusal};
 ghost use Rattle.session.specs.Declines.{file_text, large_line, line_of_declined, mismatch_line, missing_line, status_of_declined};
 ghost use Rattle.session.specs.Endings.{full_line};
+ghost use Rattle.session.specs.Unasked.{line_of_unasked, status_of_unasked};
 
 use crate::lines::{say, say_disk};
-use crate::unasked::say_unasked;
-use admission::Declined;
+use crate::unasked::{unasked_status, unasked_text};
+use admission::{Declined, Unasked};
 use artifact_store::StageFault;
 use edges::Sink;
 use itoa::Buffer;
@@ -110,6 +111,20 @@ fn say_differs<K: Sink>(alloc: Global, file: &FileName, digest: &[u8; 32], sink:
     )
 }
 
+/// Prints why a request at the device comes to no document.
+fn say_unasked<K: Sink>(alloc: Global, unasked: &Unasked, sink: &mut K) -> Status
+    ensures says { SaysRefusal (K.held sink.old) (K.held sink.new) result (status_of_unasked unasked.now) (line_of_unasked unasked.now) }
+    ensures edge { result ≡ statuses.Edge → Rose (K.faults sink.old) (K.faults sink.new) }
+    ensures quiet { result ≢ statuses.Edge → K.faults sink.new ≡ K.faults sink.old }
+    ensures later { K.faults sink.old ≤ K.faults sink.new }
+    ensures answers { (result ≡ status_of_unasked unasked.now) ⊎ (result ≡ statuses.Memory) ⊎ (result ≡ statuses.Edge) }
+{
+    match unasked_text(alloc, unasked) {
+        Ok(text) => say(sink, &[text.as_str()], unasked_status(unasked)),
+        Err(_) => Status::Memory,
+    }
+}
+
 /// Prints why a document is not taken in.
 pub(crate) fn say_declined<K: Sink>(alloc: Global, declined: &Declined, sink: &mut K) -> Status
     ensures says { SaysRefusal (K.held sink.old) (K.held sink.new) result (status_of_declined declined.now) (line_of_declined declined.now) }
@@ -132,7 +147,7 @@ pub(crate) fn say_declined<K: Sink>(alloc: Global, declined: &Declined, sink: &m
             say_differs(alloc, file, digest, sink)
         }
         Declined::Unstaged(StageFault::NoMemory) => Status::Memory,
-        Declined::Unasked(unasked) => say_unasked(unasked, sink),
+        Declined::Unasked(unasked) => say_unasked(alloc, unasked, sink),
     }
 }
 

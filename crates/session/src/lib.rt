@@ -25,4 +25,5 @@ pub use resumes::resume;
 pub use runs::{run_deployment, run_document};
 pub use session_boots::acknowledge;
 pub use session_shutdown::stop_components;
+pub use unasked::{unasked_status, unasked_text};
 pub use whole::{finish, resume_to_end, run_made_to_end};

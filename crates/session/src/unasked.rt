@@ -1,82 +1,62 @@
 // A request at the device that comes to no document.
-ghost use Rattle.std.specs.Prelude.{◌≡◌, ◌≢◌, ◌≤◌};
-ghost use Rattle.nuc_base.specs.Faults.{Rose};
-ghost use Rattle.nuc_base.specs.declared.status.Status.TheVariants as statuses;
-ghost use Rattle.local_deploy.specs.Reasons.{reason_of};
-ghost use Rattle.session.specs.Calls.{IsOrEdge, SaysLine};
+ghost use Rattle.std.specs.Prelude.{◌≡◌, IfOk};
 ghost use Rattle.session.specs.Unasked.{line_of_unasked, said_of, status_of_unasked};
 
-use crate::lines::say;
 use admission::Unasked;
-use edges::Sink;
-use itoa::Buffer;
 use local_deploy::LocalFault;
-use nuc_base::{Name, Status};
+use nuc_base::{NoMemory, Status, Text};
+use std::alloc::Global;
 
-/// Prints a word and a name.
-fn say_named<K: Sink>(word: &str, name: &Name, status: Status, sink: &mut K) -> Status
-    requires other { status ≢ statuses.Edge }
-    ensures says { SaysLine (K.held sink.old) (K.held sink.new) result (said_of word.now name.now) }
-    ensures edge { result ≡ statuses.Edge → Rose (K.faults sink.old) (K.faults sink.new) }
-    ensures quiet { result ≢ statuses.Edge → K.faults sink.new ≡ K.faults sink.old }
-    ensures later { K.faults sink.old ≤ K.faults sink.new }
-    ensures answers { IsOrEdge result status }
+/// A word, what it is said of, and the end of the line.
+fn said(alloc: Global, word: &str, what: &str) -> Result<Text, NoMemory>
+    ensures { IfOk result (λ text. text ≡ said_of word.now what.now) }
 {
-    say(sink, &[word, name.as_str(), "\n"], status)
+    let mut out = Text::empty(alloc);
+    out.push_str(word)?;
+    out.push_str(what)?;
+    out.push_str("\n")?;
+    Ok(out)
 }
 
-/// Prints the fault of a request.
-fn say_fault<K: Sink>(fault: &LocalFault, sink: &mut K) -> Status
-    ensures says { SaysLine (K.held sink.old) (K.held sink.new) result (line_of_unasked (Unasked.Local fault.now)) }
-    ensures edge { result ≡ statuses.Edge → Rose (K.faults sink.old) (K.faults sink.new) }
-    ensures quiet { result ≢ statuses.Edge → K.faults sink.new ≡ K.faults sink.old }
-    ensures later { K.faults sink.old ≤ K.faults sink.new }
-    ensures answers { IsOrEdge result statuses.BadInput }
+fn fault_text(alloc: Global, fault: &LocalFault) -> Result<Text, NoMemory>
+    ensures { IfOk result (λ text. text ≡ line_of_unasked (Unasked.Local fault.now)) }
 {
-    let (word, space, field) = fault.reason();
-    say(
-        sink,
-        &["refused 2 local ", word, space, field, "\n"],
-        Status::BadInput,
-    )
+    let reason = format!(in alloc; "{fault}")?;
+    said(alloc, "refused 2 local ", reason.as_str())
 }
 
-/// Prints that the group would require too many components.
-fn say_too_many<K: Sink>(count: u32, sink: &mut K) -> Status
-    ensures says { SaysLine (K.held sink.old) (K.held sink.new) result (line_of_unasked (Unasked.TooManyLocal count)) }
-    ensures edge { result ≡ statuses.Edge → Rose (K.faults sink.old) (K.faults sink.new) }
-    ensures quiet { result ≢ statuses.Edge → K.faults sink.new ≡ K.faults sink.old }
-    ensures later { K.faults sink.old ≤ K.faults sink.new }
-    ensures answers { IsOrEdge result statuses.BadInput }
+fn count_text(alloc: Global, count: u32) -> Result<Text, NoMemory>
+    ensures { IfOk result (λ text. text ≡ line_of_unasked (Unasked.TooManyLocal count)) }
 {
-    let mut digits = Buffer::new();
-    say(
-        sink,
-        &["refused 2 local TooManyLocal ", digits.format(count), "\n"],
-        Status::BadInput,
-    )
+    let digits = format!(in alloc; "{count}")?;
+    said(alloc, "refused 2 local TooManyLocal ", digits.as_str())
 }
 
-/// Prints why a request at the device comes to no document.
-pub(crate) fn say_unasked<K: Sink>(unasked: &Unasked, sink: &mut K) -> Status
-    ensures says { SaysLine (K.held sink.old) (K.held sink.new) result (line_of_unasked unasked.now) }
-    ensures edge { result ≡ statuses.Edge → Rose (K.faults sink.old) (K.faults sink.new) }
-    ensures quiet { result ≢ statuses.Edge → K.faults sink.new ≡ K.faults sink.old }
-    ensures later { K.faults sink.old ≤ K.faults sink.new }
-    ensures answers { IsOrEdge result (status_of_unasked unasked.now) }
+/// The line of a request at the device that comes to no document.
+pub fn unasked_text(alloc: Global, unasked: &Unasked) -> Result<Text, NoMemory>
+    ensures { IfOk result (λ text. text ≡ line_of_unasked unasked.now) }
 {
     match unasked {
-        Unasked::Local(fault) => say_fault(fault, sink),
-        Unasked::NotLocal(name) => {
-            say_named("refused 2 local NotLocal ", name, Status::BadInput, sink)
-        }
-        Unasked::TooManyLocal(count) => say_too_many(*count, sink),
-        Unasked::Unlisted(name) => {
-            say_named("refused 2 local Unlisted ", name, Status::BadInput, sink)
-        }
-        Unasked::NoComponent(name) => {
-            say_named("refused 19 NoComponent ", name, Status::Absent, sink)
-        }
-        Unasked::NotListed(name) => say_named("refused 19 NotListed ", name, Status::Absent, sink),
+        Unasked::Local(fault) => fault_text(alloc, fault),
+        Unasked::NotLocal(name) => said(alloc, "refused 2 local NotLocal ", name.as_str()),
+        Unasked::TooManyLocal(count) => count_text(alloc, *count),
+        Unasked::Unlisted(name) => said(alloc, "refused 2 local Unlisted ", name.as_str()),
+        Unasked::NoComponent(name) => said(alloc, "refused 19 NoComponent ", name.as_str()),
+        Unasked::NotListed(name) => said(alloc, "refused 19 NotListed ", name.as_str()),
+        Unasked::Misshaped(key) => said(alloc, "refused 2 document WrongKind ", key.text()),
+    }
+}
+
+/// The status of a call that ends with it.
+pub fn unasked_status(unasked: &Unasked) -> Status
+    ensures { result ≡ status_of_unasked unasked.now }
+{
+    match unasked {
+        Unasked::Local(_)
+        | Unasked::NotLocal(_)
+        | Unasked::TooManyLocal(_)
+        | Unasked::Unlisted(_)
+        | Unasked::Misshaped(_) => Status::BadInput,
+        Unasked::NoComponent(_) | Unasked::NotListed(_) => Status::Absent,
     }
 }
