@@ -54,7 +54,8 @@ use Rattle.session_startup.specs.Ended.{ClosesAs}
 use Rattle.nucleus_top.specs.Answers.{Input, Printed, Shelf, Store, IsPrinted, status_of, store_of}
 use Rattle.nucleus_top.specs.Completeness.{AreImagesOf, DeploysComplete, EndsDriven, EndsWell, HasGotOn, IsComplete, MayAsk, MayDeploy, NoFaults, ResumesGetOn}
 use Rattle.nucleus_top.specs.Drives.{IsInputDeployed, DriveParts, IsDeployedOn, IsRefusedBefore, IsResumedOn, MayNotOpen, StartsFrom}
-use Rattle.nucleus_top.specs.Drives.{MayNotDeploy, shelf_for}
+use Rattle.nucleus_top.specs.Drives.{MayNotDeploy}
+use Rattle.nucleus_top.specs.Shelves.{shelf_for}
 use Rattle.nucleus_top.specs.Opening.{IsImageOf}
 use Rattle.nucleus_top.specs.Planning.{IsFound}
 use Rattle.nucleus_top.specs.declared.answer.Answer.{Answer}

@@ -65,7 +65,8 @@ use Rattle.nucleus_top.specs.Asked.{AreWordsFor, asked_of}
 use Rattle.nucleus_top.specs.Crashes.{KeepsJournal, KeepsSameWhole, LeavesPrefixes, LeavesSame}
 use Rattle.nucleus_top.specs.Drives.{AsksTo, IsInputDeployed, AsksToServe, AsksWithLibrary, DriveParts, AsksToDrive, AsksToDriveOne, AsksToServeTurns}
 use Rattle.nucleus_top.specs.Drives.{MayNotRead, IsDeployed, IsDeployedOn, IsDrivenOn, IsMade, IsResumedOn, IsRefusedBefore}
-use Rattle.nucleus_top.specs.Drives.{IsUnread, IsUnswept, ask_of, shelf_for}
+use Rattle.nucleus_top.specs.Drives.{IsUnread, IsUnswept, ask_of}
+use Rattle.nucleus_top.specs.Shelves.{shelf_for}
 use Rattle.nucleus_top.specs.Drives.{NamesPendingOf, StartsFrom, TellsSweep, TellsUnread, MayNotDeploy, MayNotOpen, MayNotOpenIdle, slots_start}
 use Rattle.nucleus_top.specs.Opening.{HasEntry, IsImageOf}
 use Rattle.nucleus_top.specs.Parts.{Parts, Setting}

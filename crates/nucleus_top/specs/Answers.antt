@@ -13,7 +13,7 @@ use Rattle.edges.specs.declared.source.Source as a_source
 use Rattle.library_core.specs.Library.{Content}
 use Rattle.library_core.specs.declared.library.Library as a_library
 use Rattle.recipe_reader.specs.Members.{members}
-use Rattle.refusal_lines.specs.Statuses.{status_of_refusal}
+use Rattle.nucleus_top.specs.Reasons.{status_of_reason}
 use Rattle.why_not.specs.Reasons.{seen}
 use Rattle.why_not.specs.Texts.{why_bytes}
 use Rattle.nucleus_top.specs.declared.answer.Answer.{Answer}
@@ -25,7 +25,7 @@ abbrev pub status_of : Answer → Status
 status_of (Made thing) = status.Done
 status_of (Shown text) = status.Done
 status_of (Planned text) = status.Done
-status_of (Unplanned refusal text) = status_of_refusal refusal
+status_of (Unplanned reason text) = status_of_reason reason
 status_of Possible = status.Done
 status_of (Impossible e) = status.NoVersion
 status_of (Drawn text) = status.Done
@@ -76,7 +76,7 @@ abbrev pub lines_of : Answer → List ℕ
 lines_of (Made thing) = made_line thing
 lines_of (Shown text) = text
 lines_of (Planned text) = text
-lines_of (Unplanned refusal text) = text
+lines_of (Unplanned reason text) = text
 lines_of Possible = possible_line
 lines_of (Impossible e) = why_bytes (members e.candidates) (seen e.why)
 lines_of (Drawn text) = text

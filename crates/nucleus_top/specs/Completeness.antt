@@ -35,7 +35,8 @@ use Rattle.admission.specs.declared.fault.Declined.{Declined}
 use Rattle.session.specs.Documents.{FitsFrom}
 use Rattle.nucleus_top.specs.Answers.{HasRisen, Input, Printed, Shelf, Store, store_of}
 use Rattle.nucleus_top.specs.Drives.{DriveParts, IsDeployed, IsDeployedOn, IsRefusedBefore, IsResumed, IsResumedOn, MayNotOpen}
-use Rattle.nucleus_top.specs.Drives.{StartsFrom, MayNotDeploy, shelf_for}
+use Rattle.nucleus_top.specs.Drives.{StartsFrom, MayNotDeploy}
+use Rattle.nucleus_top.specs.Shelves.{shelf_for}
 use Rattle.nucleus_top.specs.Opening.{IsImageOf}
 
 -- ---- nothing outside fails

@@ -32,7 +32,6 @@ use Rattle.admission.specs.declared.ask.Ask.TheVariants as ask
 use Rattle.admission.specs.declared.fault.Declined.{Declined}
 use Rattle.deployment_doc.specs.declared.document.Document.{Document}
 use Rattle.law_whole.specs.Taking.{StayWhole}
-use Rattle.library_core.specs.Nothing.{no_content}
 use Rattle.session.specs.Calls.{Call, AreOthersSame, IsPendingAs, ChangesArtifactsAlone}
 use Rattle.session.specs.Documents.{AcceptsTaken, DrivesTaken}
 use Rattle.session.specs.Endings.{ByDiskFault, ResumeEnding}
@@ -45,6 +44,7 @@ use Rattle.nucleus_top.specs.Meeting.{StayMet}
 use Rattle.nucleus_top.specs.Opening.{IsImageOf, StandsForNone}
 use Rattle.nucleus_top.specs.Planning.{IsFound, IsPending}
 use Rattle.nucleus_top.specs.Refusing.{NoDeviceAnswer}
+use Rattle.nucleus_top.specs.Shelves.{shelf_for}
 use Rattle.nucleus_top.specs.declared.answer.Answer.{Answer}
 use Rattle.nucleus_top.specs.declared.answer.Answer.TheVariants.{Damaged, DiskFailed, NoMemory, NotInitialised, Pending, SourceFailed}
 
@@ -185,15 +185,6 @@ module _ {D : Type 0} (may_leave : D → Image → Type 0) (moment : D → ℕ) 
     pub stays : StayWhole d (records_of h)
 
 -- ---- `deploy`, `local` and `config-set`
-
--- a library without recipes and artifacts, which never fails
-abbrev pub no_shelf : Shelf
-no_shelf = record { content = Some no_content; faults_before = 0; faults_after = 0 }
-
--- A change of a configuration is deployed over no library.
-abbrev pub shelf_for : Ask → Shelf → Shelf
-shelf_for (ask.Change name) shelf = no_shelf
-shelf_for _ shelf = shelf
 
 -- it is this
 abbrev pub IsMade : Result Document Declined → Device → Result Document Declined → Type 0

@@ -19,11 +19,14 @@ pub mod Objects
 pub mod Opening
 pub mod Parts
 pub mod Planning
+pub mod Posts
+pub mod Reasons
 pub mod Refusing
 pub mod Reopening
 pub mod Requested
 pub mod Series
 pub mod Serving
+pub mod Shelves
 pub mod Shows
 pub mod Why
 pub mod Words

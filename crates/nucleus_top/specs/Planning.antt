@@ -11,32 +11,33 @@ use Rattle.records.specs.declared.record.Origin.{Origin}
 use Rattle.records.specs.declared.record.Draft.{Draft}
 use Rattle.library_core.specs.declared.fault.CandidatesFault.TheVariants as gather
 use Rattle.device.specs.Devices.{Device, Pending as PendingPlan}
-use Rattle.plan_core.specs.Checks.{ProposesRead}
-use Rattle.plan_core.specs.declared.fault.Refusal.{Refusal}
 use Rattle.plan_core.specs.declared.fault.Refusal.TheVariants.{Repeated, Candidates}
 use Rattle.status_text.specs.Status.{closed_line}
-use Rattle.refusal_lines.specs.Lines.{refusal_line, plan_lines}
-use Rattle.refusal_lines.specs.Statuses.{status_of_refusal}
+use Rattle.refusal_lines.specs.Lines.{plan_lines}
 use Rattle.nucleus_top.specs.Opening.{IsImageOf, HasEntry, StandsForNone}
+use Rattle.nucleus_top.specs.Posts.{PostComes, ProposesMade}
+use Rattle.nucleus_top.specs.Reasons.{line_of_reason, status_of_reason}
 use Rattle.nucleus_top.specs.Inits.{IsRefusedAt}
 use Rattle.nucleus_top.specs.Refusing.{NoDeviceAnswer}
 use Rattle.nucleus_top.specs.Answers.{Store, Input, Shelf, Printed, IsUnchanged, HasPrinted, IsOrFault, none_line, damaged_line, pending_line, library_line}
 use Rattle.nucleus_top.specs.Answers.{status_of, lines_of}
 use Rattle.nucleus_top.specs.declared.answer.Answer.{Answer}
+use Rattle.nucleus_top.specs.declared.reason.Reason.{Reason}
+use Rattle.nucleus_top.specs.declared.reason.Reason.TheVariants.{Refused}
 use Rattle.nucleus_top.specs.declared.answer.Answer.TheVariants.{Planned, Unplanned, Pending, DiskFailed, SourceFailed, LibraryFailed, NotInitialised}
 use Rattle.nucleus_top.specs.declared.answer.Answer.TheVariants.{Damaged, NoMemory}
 
 -- ---- a device without a pending deployment
 
--- What comes of the document on the device: the draft of a plan, or the first refusal. The document is all that the
--- source had left, where it tells that.
-pub record IsProposed (d : Device) (input : Input) (library : Shelf) (result : Result Draft Refusal) : Type 0 where
+-- What comes of the document on the device, or of the request in its place: the draft of a plan, or the first reason against it. It is all
+-- that the source had left, where it tells that.
+pub record IsProposed (d : Device) (input : Input) (library : Shelf) (result : Result Draft Reason) : Type 0 where
   pub idle : d.pending ≡ None
   pub origin : Origin
   pub origin_is : d.origin ≡ Some origin
   pub bytes : List ℕ
   pub document : (whole : List ℕ) → input.document ≡ Some whole → bytes ≡ whole
-  pub comes : ProposesRead d origin library.content library.faults_before library.faults_after bytes result
+  pub comes : PostComes (λ shelf made. ProposesMade d origin shelf made result) bytes d library
 
 -- the lines of the draft, or want of memory
 abbrev pub TellsDraft : Draft → Answer → Type 0
@@ -44,16 +45,16 @@ TellsDraft draft (Planned text) = text ≡ plan_lines (draft_view draft)
 TellsDraft draft NoMemory = ⊤
 TellsDraft draft _ = ⊥
 
--- the line of the refusal, or want of memory. A library that failed is answered without memory.
-abbrev pub TellsRefusal : Refusal → Answer → Type 0
-TellsRefusal refusal (Unplanned r text) = (r ≡ refusal) × (text ≡ refusal_line refusal) × (status_of_refusal refusal ≢ status.Library)
-TellsRefusal refusal LibraryFailed = status_of_refusal refusal ≡ status.Library
-TellsRefusal refusal NoMemory = status_of_refusal refusal ≢ status.Library
-TellsRefusal refusal _ = ⊥
+-- the line of the reason, or want of memory. A library that failed is answered without memory.
+abbrev pub TellsReason : Reason → Answer → Type 0
+TellsReason reason (Unplanned r text) = (r ≡ reason) × (text ≡ line_of_reason reason) × (status_of_reason reason ≢ status.Library)
+TellsReason reason LibraryFailed = status_of_reason reason ≡ status.Library
+TellsReason reason NoMemory = status_of_reason reason ≢ status.Library
+TellsReason reason _ = ⊥
 
-abbrev pub ProposalAnswer : Result Draft Refusal → Answer → Type 0
+abbrev pub ProposalAnswer : Result Draft Reason → Answer → Type 0
 ProposalAnswer (Ok draft) answer = TellsDraft draft answer
-ProposalAnswer (Err refusal) answer = TellsRefusal refusal answer
+ProposalAnswer (Err reason) answer = TellsReason reason answer
 
 -- ---- any device
 
@@ -66,10 +67,10 @@ NamesPending id _ = ⊥
 -- Why an answer comes on a device.
 abbrev pub PlanAnswerOn : Device → Input → Shelf → Answer → Type 0
 PlanAnswerOn d input library (Planned text) = (draft : Draft) × IsProposed d input library (Ok draft) × (text ≡ plan_lines (draft_view draft))
-PlanAnswerOn d input library (Unplanned refusal text) = IsProposed d input library (Err refusal) × (text ≡ refusal_line refusal) ×
-    (status_of_refusal refusal ≢ status.Library)
+PlanAnswerOn d input library (Unplanned reason text) = IsProposed d input library (Err reason) × (text ≡ line_of_reason reason) ×
+    (status_of_reason reason ≢ status.Library)
 PlanAnswerOn d input library (Pending id) = (input.rest ≡ input.document) × ((q : PendingPlan) × (d.pending ≡ Some q) × (id ≡ q.plan.id))
-PlanAnswerOn d input library LibraryFailed = IsProposed d input library (Err (Candidates gather.Library)) × Rose library.faults_before library.faults_after
+PlanAnswerOn d input library LibraryFailed = IsProposed d input library (Err (Refused (Candidates gather.Library))) × Rose library.faults_before library.faults_after
 PlanAnswerOn d input library SourceFailed = (d.pending ≡ None) × Rose input.faults_before input.faults_after
 PlanAnswerOn d input library NoMemory = ⊤
 PlanAnswerOn d input library _ = ⊥
@@ -100,7 +101,7 @@ IsPlanPrinted store input library printed =
 -- the document's deployment closed as successful before, and that was printed again
 abbrev pub IsClosePrinted : Store → Input → Shelf → Printed → Type 0
 IsClosePrinted store input library printed =
-    (d : Device) × (id : List ℕ) × IsFound store d × IsProposed d input library (Err (Repeated id Successful)) ×
+    (d : Device) × (id : List ℕ) × IsFound store d × IsProposed d input library (Err (Refused (Repeated id Successful))) ×
     HasPrinted printed (closed_line (id, Successful))
 
 -- the journal stands for a device with a pending deployment of this id

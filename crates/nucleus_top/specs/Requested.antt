@@ -20,7 +20,8 @@ use Rattle.admission.specs.declared.ask.Ask.TheVariants as ask
 use Rattle.law_whole.specs.Requested.{AcceptsNone, IsChangePlan, LocalLeavesBy, outcome_in}
 use Rattle.law_whole.specs.Whole.{Whole}
 use Rattle.nucleus_top.specs.Answers.{Printed, Shelf}
-use Rattle.nucleus_top.specs.Drives.{IsDeployedOn, no_shelf}
+use Rattle.nucleus_top.specs.Drives.{IsDeployedOn}
+use Rattle.nucleus_top.specs.Shelves.{no_shelf}
 
 -- The plan is that of the document of the list of the request. Behind its close, in this call or a later one, the group of the device
 -- itself has that list where the plan takes the place of the set, and nothing else of the groups changed.

@@ -9,40 +9,40 @@ use Rattle.recipe_reader.specs.Members.{members}
 use Rattle.recipe_reader.specs.Sets.{IsValid, asked}
 use Rattle.library_core.specs.declared.fault.CandidatesFault.TheVariants as gather
 use Rattle.device.specs.Devices.{Device}
-use Rattle.plan_core.specs.Questions.{QuestionsRead}
-use Rattle.plan_core.specs.declared.fault.Refusal.{Refusal}
 use Rattle.plan_core.specs.declared.fault.Refusal.TheVariants.{Repeated, Candidates}
 use Rattle.plan_core.specs.declared.questions.Question.{Question}
 use Rattle.status_text.specs.Status.{closed_line}
-use Rattle.refusal_lines.specs.Lines.{refusal_line}
-use Rattle.refusal_lines.specs.Statuses.{status_of_refusal}
 use Rattle.why_not.specs.Reasons.{Reason, seen}
 use Rattle.why_not.specs.Plain.{IsExplanation, HasNoSet}
 use Rattle.why_not.specs.Texts.{why_bytes}
 use Rattle.nucleus_top.specs.Answers.{Store, Input, Shelf, Printed, IsUnchanged, HasPrinted, possible_line, status_of, lines_of}
 use Rattle.nucleus_top.specs.Drives.{PendingParts, RefusedParts}
 use Rattle.nucleus_top.specs.Looks.{LookAnswer}
-use Rattle.nucleus_top.specs.Planning.{IsFound, PlanAnswerOn, TellsRefusal}
+use Rattle.nucleus_top.specs.Planning.{IsFound, PlanAnswerOn, TellsReason}
+use Rattle.nucleus_top.specs.Posts.{AsksMade, PostComes}
+use Rattle.nucleus_top.specs.Reasons.{line_of_reason, status_of_reason}
 use Rattle.nucleus_top.specs.declared.answer.Answer.{Answer}
+use Rattle.nucleus_top.specs.declared.reason.Reason.{Reason}
+use Rattle.nucleus_top.specs.declared.reason.Reason.TheVariants.{Refused}
 use Rattle.nucleus_top.specs.declared.answer.Answer.TheVariants.{Possible, Impossible, Unplanned, Pending, SourceFailed, LibraryFailed, NoMemory}
 
 -- ---- a device without a pending deployment
 
--- What the document asks of the candidates that the device has with the library, or the first refusal. The document is all
--- that the source had left, where it tells that.
-pub record IsQuestioned (d : Device) (input : Input) (library : Shelf) (result : Result Question Refusal) : Type 0 where
+-- What the document, or the request in its place, asks of the candidates that the device has with the library, or the first reason against
+-- it. It is all that the source had left, where it tells that.
+pub record IsQuestioned (d : Device) (input : Input) (library : Shelf) (result : Result Question Reason) : Type 0 where
   pub idle : d.pending ≡ None
   pub origin : Origin
   pub origin_is : d.origin ≡ Some origin
   pub bytes : List ℕ
   pub document : (whole : List ℕ) → input.document ≡ Some whole → bytes ≡ whole
-  pub comes : QuestionsRead d origin library.content library.faults_before library.faults_after bytes result
+  pub comes : PostComes (λ shelf made. AsksMade d origin shelf made result) bytes d library
 
--- The first refusal, with its line. A library that failed is answered without memory.
-pub record IsDeclined (d : Device) (input : Input) (library : Shelf) (refusal : Refusal) (text : List ℕ) : Type 0 where
-  pub questioned : IsQuestioned d input library (Err refusal)
-  pub text_is : text ≡ refusal_line refusal
-  pub not_library : status_of_refusal refusal ≢ status.Library
+-- The first reason against it, with its line. A library that failed is answered without memory.
+pub record IsDeclined (d : Device) (input : Input) (library : Shelf) (reason : Reason) (text : List ℕ) : Type 0 where
+  pub questioned : IsQuestioned d input library (Err reason)
+  pub text_is : text ≡ line_of_reason reason
+  pub not_library : status_of_reason reason ≢ status.Library
 
 -- some set of the candidates is valid for what is wanted of them
 pub record IsPossible (d : Device) (input : Input) (library : Shelf) : Type 0 where
@@ -69,9 +69,9 @@ pub record IsImpossible (d : Device) (input : Input) (library : Shelf) (text : L
 abbrev pub WhyAnswerOn : Device → Input → Shelf → Answer → Type 0
 WhyAnswerOn d input library Possible = IsPossible d input library
 WhyAnswerOn d input library (Impossible e) = IsImpossible d input library (why_bytes (members e.candidates) (seen e.why))
-WhyAnswerOn d input library (Unplanned refusal text) = IsDeclined d input library refusal text
+WhyAnswerOn d input library (Unplanned reason text) = IsDeclined d input library reason text
 WhyAnswerOn d input library (Pending id) = PlanAnswerOn d input library (Pending id)
-WhyAnswerOn d input library LibraryFailed = IsQuestioned d input library (Err (Candidates gather.Library)) × Rose library.faults_before library.faults_after
+WhyAnswerOn d input library LibraryFailed = IsQuestioned d input library (Err (Refused (Candidates gather.Library))) × Rose library.faults_before library.faults_after
 WhyAnswerOn d input library SourceFailed = PlanAnswerOn d input library SourceFailed
 WhyAnswerOn d input library NoMemory = ⊤
 WhyAnswerOn d input library _ = ⊥
@@ -91,10 +91,10 @@ TellsWhy question (Impossible e) = IsExplained question (why_bytes (members e.ca
 TellsWhy question NoMemory = ⊤
 TellsWhy question _ = ⊥
 
--- the same, or the line of the refusal
-abbrev pub TellsAsked : Result Question Refusal → Answer → Type 0
+-- the same, or the line of the reason against it
+abbrev pub TellsAsked : Result Question Reason → Answer → Type 0
 TellsAsked (Ok question) answer = TellsWhy question answer
-TellsAsked (Err refusal) answer = TellsRefusal refusal answer
+TellsAsked (Err reason) answer = TellsReason reason answer
 
 -- ---- what it promises
 
@@ -105,7 +105,7 @@ IsPossiblePrinted store input library printed = (d : Device) × IsFound store d 
 -- the document's deployment closed as successful before, and that was printed again
 abbrev pub IsCloseRepeated : Store → Input → Shelf → Printed → Type 0
 IsCloseRepeated store input library printed =
-    (d : Device) × (id : List ℕ) × IsFound store d × IsQuestioned d input library (Err (Repeated id Successful)) ×
+    (d : Device) × (id : List ℕ) × IsFound store d × IsQuestioned d input library (Err (Refused (Repeated id Successful))) ×
     HasPrinted printed (closed_line (id, Successful))
 
 -- no set is valid, and this is the text of a certificate

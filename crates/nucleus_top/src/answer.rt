@@ -4,10 +4,9 @@ ghost use Rattle.edges.specs.Pieces.{WriteOutcome};
 ghost use Rattle.nucleus_top.specs.Answers.{status_of, lines_of, printed_over, IsPrinted};
 
 use crate::explanation::Explanation;
+use crate::reason::Reason;
 use edges::{EdgeFault, Sink, write_all, write_pieces};
 use nuc_base::{Bytes, Label, Status, Text};
-use plan_core::Refusal;
-use refusal_lines::refusal_status;
 use why_not::write_why;
 
 /// What a call has come to, with what its lines say.
@@ -19,8 +18,8 @@ pub enum Answer {
     Shown(Text),
     /// The plan is this text.
     Planned(Text),
-    /// The document comes to no plan, as this text says.
-    Unplanned(Refusal, Text),
+    /// What was posted comes to no plan, as this text says.
+    Unplanned(Reason, Text),
     /// The deployments of a workload closed as this line says.
     Drawn(Text),
     /// A set of the candidates is valid.
@@ -61,7 +60,7 @@ impl Answer {
             Answer::Made(_) => Status::Done,
             Answer::Shown(_) => Status::Done,
             Answer::Planned(_) => Status::Done,
-            Answer::Unplanned(refusal, _) => refusal_status(refusal),
+            Answer::Unplanned(reason, _) => reason.status(),
             Answer::Drawn(_) => Status::Done,
             Answer::Possible => Status::Done,
             Answer::Impossible(_) => Status::NoVersion,

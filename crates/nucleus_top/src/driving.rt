@@ -21,7 +21,8 @@ ghost use Rattle.nucleus_top.specs.Crashes.{KeepsJournal, KeepsJournalOrFiles, K
 ghost use Rattle.nucleus_top.specs.Objects.{HoldsSlots, IsDeployedFrom, IsDeployedOver, IsInputDeployedOver, IsRefusedOver, IsResumedOver};
 ghost use Rattle.nucleus_top.specs.Opening.{HasEntry, IsImageOf};
 ghost use Rattle.nucleus_top.specs.Drives.{IsMade, IsUnread, IsUnswept, NamesPendingOf, StartsFrom};
-ghost use Rattle.nucleus_top.specs.Drives.{TellsSweep, TellsUnread, MayNotDeploy, MayNotOpen, MayNotOpenIdle, shelf_for, slots_start};
+ghost use Rattle.nucleus_top.specs.Drives.{TellsSweep, TellsUnread, MayNotDeploy, MayNotOpen, MayNotOpenIdle, slots_start};
+ghost use Rattle.nucleus_top.specs.Shelves.{shelf_for};
 
 use crate::answer::Answer;
 use crate::opening::{HasDevice, open, refused};

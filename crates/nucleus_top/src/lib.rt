@@ -22,6 +22,7 @@ mod laws;
 mod looking;
 mod opening;
 mod planning;
+mod reason;
 mod serving;
 mod status;
 mod top;

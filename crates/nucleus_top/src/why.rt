@@ -1,5 +1,5 @@
 // The command `why`.
-ghost use Rattle.std.specs.Prelude.{◌≡◌, ◌≢◌, ◌≤◌, None};
+ghost use Rattle.std.specs.Prelude.{◌≡◌, ◌≢◌, ◌≤◌, None, Some, Ok, IfErr};
 ghost use Rattle.std.specs.Option.{IsSome};
 ghost use Rattle.disk_model.specs.Disk.{HasLeft};
 ghost use Rattle.command_words.specs.declared.order.Order.TheVariants as order;
@@ -9,18 +9,25 @@ ghost use Rattle.device.specs.Sound.{IsSound};
 ghost use Rattle.edges.specs.Reading.{ReadsUpTo};
 ghost use Rattle.nucleus_top.specs.Answers.{store_over, input_over, shelf_over, IsQuiet, IsStill};
 ghost use Rattle.nucleus_top.specs.Leaving.{IsDurableIfDone};
+ghost use Rattle.nucleus_top.specs.Posts.{AsksMade, IsStillBy};
+ghost use Rattle.nucleus_top.specs.Reasons.{IsUntouched};
+ghost use Rattle.nucleus_top.specs.Shelves.{shelf_for};
 ghost use Rattle.nucleus_top.specs.Why.{TellsAsked, TellsWhy, WhyAnswerOn, WhyAnswer};
+ghost use Rattle.records.specs.declared.record.Origin.{Origin};
 
 use crate::answer::Answer;
 use crate::explanation::Explanation;
 use crate::opening::{HasDevice, open, refused};
 use crate::planning::{pending, unplanned};
+use crate::reason::Reason;
+use admission::{Ask, Posted, make_posted};
+use deployment_doc::Document;
 use device::Device;
 use disk_model::Disk;
 use edges::{ReadFault, Source, read_up_to};
-use library_core::Library;
+use library_core::{Library, NoLibrary};
 use nuc_base::DOCUMENT_LIMIT;
-use plan_core::{Question, Refusal, ask_read};
+use plan_core::{Question, ask};
 use std::alloc::Global;
 use why_not::explain;
 
@@ -37,17 +44,71 @@ fn explained(alloc: Global, question: Question) -> Answer
     }
 }
 
-/// The same, or the first refusal of the document.
-fn told(alloc: Global, asked: Result<Question, Refusal>) -> Answer
+/// The same, or the first reason against it.
+fn told(alloc: Global, asked: Result<Question, Reason>) -> Answer
     ensures { TellsAsked asked result }
 {
     match asked {
         Ok(question) => explained(alloc, question),
-        Err(refusal) => unplanned(alloc, refusal),
+        Err(reason) => unplanned(alloc, reason),
     }
 }
 
-/// What stands against the document that the source has, on a device without a pending deployment.
+/// What the document asks, over no library where it changes a configuration.
+fn asked_over<L: Library>(
+    alloc: Global,
+    device: &Device,
+    library: &mut L,
+    what: &Ask,
+    document: &Document,
+) -> Result<Question, Reason>
+    requires origin { IsSome device.now.origin }
+    requires sound { IsSound (device_view device.now) }
+    ensures asks { (o : Origin) → device.now.origin ≡ Some o → AsksMade (device_view device.now) o
+        (shelf_for what.now (shelf_over L.Library library.old library.new)) (Ok document.now) result }
+    ensures still { IsStillBy (shelf_over L.Library library.old library.new) result }
+    ensures kept { L.content library.new ≡ L.content library.old }
+    ensures later { L.faults library.old ≤ L.faults library.new }
+{
+    let question = match what {
+        Ask::Change(_) => ask(alloc, device, &mut NoLibrary, document)?,
+        Ask::Document | Ask::Local => ask(alloc, device, library, document)?,
+    };
+    Ok(question)
+}
+
+/// What was posted asks of the candidates, or the first reason against it.
+fn asked<L: Library>(
+    alloc: Global,
+    device: &Device,
+    library: &mut L,
+    posted: Posted,
+) -> Result<Question, Reason>
+    requires origin { IsSome device.now.origin }
+    requires sound { IsSound (device_view device.now) }
+    requires untouched { IfErr posted.made (λ x. IsUntouched x) }
+    ensures asks { (o : Origin) → device.now.origin ≡ Some o → AsksMade (device_view device.now) o
+        (shelf_for posted.ask (shelf_over L.Library library.old library.new)) posted.made result }
+    ensures still { IsStillBy (shelf_over L.Library library.old library.new) result }
+    ensures kept { L.content library.new ≡ L.content library.old }
+    ensures later { L.faults library.old ≤ L.faults library.new }
+{
+    let Posted { ask: what, made } = posted;
+    match made {
+        Ok(document) => {
+            let question = asked_over(alloc, device, library, &what, &document);
+            drop(document);
+            drop(what);
+            question
+        }
+        Err(declined) => {
+            drop(what);
+            Err(Reason::of(declined))
+        }
+    }
+}
+
+/// What stands against what the source has, a document or a request in its place, on a device without a pending deployment.
 fn why_idle<L: Library, S: Source>(
     alloc: Global,
     device: &Device,
@@ -71,8 +132,10 @@ fn why_idle<L: Library, S: Source>(
         Err(ReadFault::Edge) => return Answer::SourceFailed,
         Err(ReadFault::NoMemory) => return Answer::NoMemory,
     };
-    let asked = ask_read(alloc, device, library, bytes.as_slice());
-    told(alloc, asked)
+    let posted = make_posted(alloc, device, bytes.as_slice());
+    drop(bytes);
+    let question = asked(alloc, device, library, posted);
+    told(alloc, question)
 }
 
 #[tactic(auto, using(crate::proofs::Reading::reads_none))]

@@ -45,6 +45,27 @@ config-set --component Y|genesis gc activate close|X 1.0.0|{"deploymentId":"d0"}
 config-set --component Y|genesis gc activate close|{"RecipeFormatVersion":"1"}|{"deploymentId":"c1"}|19|refused 19 NoComponent Y;
 config-set --component C|genesis|{"RecipeFormatVersion":"1"}|{"deploymentId":"c1"}|19|refused 19 NoComponent C;"#;
 
+/// The same of requests that stand in the place of a document, and of documents that look like one.
+const POSTS: &str =
+    r#"plan|genesis|X 1.0.0|{"local":{"deploymentId":"l1","merge":{"X":"^1.0.0"}}}|0|plan X 1.0.0;
+plan|genesis|X 1.0.0|{"config-set":{"component":"X","change":{"deploymentId":"c1"}}}|19|refused 19 NoComponent X;
+plan|genesis gc activate close|{"RecipeFormatVersion":"1"}|{"config-set":{"change":{"deploymentId":"c1","merge":{"k":1}},"component":"C"}}|0|plan C 1.0.0;
+plan|genesis|X 1.0.0|{"local":{"deploymentId":"l1"}}|0|
+plan|genesis|X 1.0.0|{"local":{"deploymentId":"l2","remove":["Y"]}}|2|refused 2 local NotLocal Y;
+plan|genesis|X 1.0.0|{"local":5}|2|refused 2 local WrongKind request;
+plan|genesis|X 1.0.0|{"local":{"deploymentId":"l2"},"x":1}|2|refused 2 document WrongKind local;
+plan|genesis|X 1.0.0|{"local":{"deploymentId":"l2"},"config-set":{}}|2|refused 2 document WrongKind local;
+plan|genesis|X 1.0.0|{"config-set":{"component":"a b","change":{"deploymentId":"c2"}}}|2|refused 2 document WrongKind config-set;
+plan|genesis|X 1.0.0|{"config-set":{"component":"X","change":{}}}|2|refused 2 document Missing deploymentId;
+plan|genesis|X 1.0.0|{"config-set":{"component":"X","change":{"deploymentId":"c2"},"y":1}}|2|refused 2 document WrongKind config-set;
+plan|genesis|X 1.0.0|{"config-set":{"component":"X","change":{"deploymentId":"c2"}},"targetArn":5}|2|refused 2 document WrongKind targetArn;
+plan|genesis|X 1.0.0|{"local":{"deploymentId":"l3","merge":{"X":"^2"}}}|3|refused 3 NoVersion;
+plan|genesis|X 1.0.0|["local"]|2|refused 2 document WrongKind document;
+why|genesis|X 1.0.0|{"local":{"deploymentId":"l1","merge":{"X":"^2"}}}|3|split X 1;  try X 1.0.0;    refused X 1.0.0 by wanted;
+why|genesis|X 1.0.0|{"local":{"deploymentId":"l1","merge":{"X":"^1.0.0"}}}|0|possible;
+why|genesis|X 1.0.0|{"config-set":{"component":"X","change":{"deploymentId":"c1"}}}|19|refused 19 NoComponent X;
+deploy|genesis|X 1.0.0|{"local":{"deploymentId":"l1","merge":{"X":"^2"}}}|2|refused 2 document Missing targetArn;"#;
+
 fn is_setting(alloc: Global, line: &str) -> Result<bool, Fail> {
     let Some((words, row)) = line.split_once('|') else {
         return Ok(false);
@@ -68,6 +89,12 @@ fn first_wrong(alloc: Global, rows: &'static str) -> Result<&'static str, Fail> 
 #[test]
 fn a_node_is_printed_or_refused(rt: HostRuntime) -> Result<(), Fail> {
     assert_eq!(rt; first_wrong(rt.alloc(), ROWS)?, "");
+    Ok(())
+}
+
+#[test]
+fn a_request_stands_in_the_place_of_a_document(rt: HostRuntime) -> Result<(), Fail> {
+    assert_eq!(rt; first_wrong(rt.alloc(), POSTS)?, "");
     Ok(())
 }
 

@@ -4,7 +4,8 @@ use Rattle.admission.specs.declared.ask.Ask.{Ask}
 use Rattle.deploy_state.specs.States.{idle_device}
 use Rattle.device.specs.Devices.{Device}
 use Rattle.nucleus_top.specs.Answers.{Printed, Shelf, printed_of, shelf_of}
-use Rattle.nucleus_top.specs.Drives.{no_shelf, shelf_for, slots_start}
+use Rattle.nucleus_top.specs.Drives.{slots_start}
+use Rattle.nucleus_top.specs.Shelves.{no_shelf, shelf_for}
 use Rattle.nucleus_top.proofs.Driven.{bytes_deployed, over_given}
 use Rattle.nucleus_top.proofs.driving.deploy_bytes.Goals as goal
 

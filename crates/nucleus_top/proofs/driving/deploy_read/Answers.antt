@@ -5,7 +5,8 @@ use Rattle.deploy_state.specs.States.{idle_device}
 use Rattle.session.proofs.Sweeping.{none_closes}
 use Rattle.nucleus_top.specs.Answers.{Input, Printed, Shelf, input_of, printed_of, shelf_of}
 use Rattle.admission.specs.Requests.{AskOutcome}
-use Rattle.nucleus_top.specs.Drives.{IsDeployedOn, shelf_for, slots_start}
+use Rattle.nucleus_top.specs.Drives.{IsDeployedOn, slots_start}
+use Rattle.nucleus_top.specs.Shelves.{shelf_for}
 use Rattle.nucleus_top.proofs.Driven.{document_deploys, first_by, stays, tells_none, unread_goes}
 use Rattle.nucleus_top.proofs.Images.{held_stands}
 use Rattle.nucleus_top.proofs.driving.deploy_read.Goals as goal
