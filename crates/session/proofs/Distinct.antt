@@ -13,8 +13,8 @@ differs ending first second is apart other = apart (sym is ∙ other)
 pub starves_fails : WantBefore ≡ ByDiskFault → ⊥
 starves_fails is = cc
 
-pub fails_fed : ByDiskFault ≡ WantBefore → ⊥
-fails_fed is = cc
+pub fails_memory : ByDiskFault ≡ WantBefore → ⊥
+fails_memory is = cc
 
 pub breaks_fails : BySinkFault ≡ ByDiskFault → ⊥
 breaks_fails is = cc

@@ -143,8 +143,8 @@ pub ending_is : (J : Type 0) (e : SessionFault) (ending : Ending) → DrivenEndi
 ending_is J over.Disk ending is = is
 ending_is J over.Output ending is = is
 
-begun_fed : (ending : Ending) → IsBegun ending → ending ≢ WantBefore
-begun_fed ending begun is = subst IsBegun is begun
+begun_memory : (ending : Ending) → IsBegun ending → ending ≢ WantBefore
+begun_memory ending begun is = subst IsBegun is begun
 
 over_ends : (p : SessionState) (e : SessionFault) (h : List TraceEvent) → EndsPart p (ending_over e) h
 over_ends p over.Disk h = tt
@@ -478,7 +478,7 @@ module _ {D J : Type 0} {is_modelled : Bool} {seen : D → Image} {may_leave : D
             after = after;
             ending = ending;
             answers = says.3;
-            prints = all_prints (StandsBehind entries may_leave new p (k ++ h)) u v w x p.device records ending status behind (begun_fed ending begun) started
+            prints = all_prints (StandsBehind entries may_leave new p (k ++ h)) u v w x p.device records ending status behind (begun_memory ending begun) started
                 (subst (λ (l : List Record). Appends v w (lines_of p.device l)) (sym same) course.lines) says.2;
             ends = driven_ends p h k q e.1.none device trace.run world told living y ending course.left says.1.0;
             left = subst (λ (z : SessionState). RanLeft p.generation ran (is_failing ending) z last now lives) (sym (left-append p k h))

@@ -28,7 +28,7 @@ use Rattle.session_rollout.specs.declared.driven.Presence.TheVariants as presenc
 use Rattle.session.specs.Calls.{IsOrEdge}
 use Rattle.session.specs.Endings.{Ending, ByClose, ByRestart, ByReboot, ByDiskFault, BySinkFault, WantAfter, WantBefore, ByDecline, Full, Idle as NothingPending}
 use Rattle.session.specs.Endings.{IsBegun, status_of_ending}
-use Rattle.session.specs.Parts.{CameBy, EndsCall, EndsPart, EndsRan, GoesOnUnfed, IsAnew, IsBack, IsGeneration, IsOver, OwnsRan, RanLeft, TakesLast, TakesNone}
+use Rattle.session.specs.Parts.{CameBy, EndsCall, EndsPart, EndsRan, NoMemoryGoesOn, IsAnew, IsBack, IsGeneration, IsOver, OwnsRan, RanLeft, TakesLast, TakesNone}
 use Rattle.session.specs.Parts.{came_of, must_end, standing_of, status_of_ran}
 use Rattle.session.specs.declared.ran.Ran.{Ran}
 use Rattle.session.specs.declared.ran.Ran.TheVariants as ran
@@ -100,19 +100,19 @@ pub came_ends : {J : Type 0} (idle : Idle J) (status : Status) (standing : Stand
 came_ends idle status standing r is = subst EndsRan (sym is) (ends_by idle status standing (must_end status standing) refl)
 
 -- not for want of memory
-must_fed : (status : Status) (standing : Standing) → must_end status standing ≡ true → status ≡ statuses.Memory → ⊥
-must_fed status standing ends is = false≢true (sym (ap (λ (s : Status). must_end s standing) is) ∙ ends)
+must_memory : (status : Status) (standing : Standing) → must_end status standing ≡ true → status ≡ statuses.Memory → ⊥
+must_memory status standing ends is = false≢true (sym (ap (λ (s : Status). must_end s standing) is) ∙ ends)
 
-unfed_by : {J : Type 0} (idle : Idle J) (status : Status) (standing : Standing) (b : Bool) → must_end status standing ≡ b →
-    GoesOnUnfed (if b then ran.Over status else ran.Back idle status standing)
-unfed_by idle status standing true ends = must_fed status standing ends
-unfed_by idle status standing false ends = tt
+no_memory_by : {J : Type 0} (idle : Idle J) (status : Status) (standing : Standing) (b : Bool) → must_end status standing ≡ b →
+    NoMemoryGoesOn (if b then ran.Over status else ran.Back idle status standing)
+no_memory_by idle status standing true ends = must_memory status standing ends
+no_memory_by idle status standing false ends = tt
 
-pub came_unfed : {J : Type 0} (idle : Idle J) (status : Status) (standing : Standing) (r : Ran J) → r ≡ came_of idle status standing → GoesOnUnfed r
-came_unfed idle status standing r is = subst GoesOnUnfed (sym is) (unfed_by idle status standing (must_end status standing) refl)
+pub came_no_memory : {J : Type 0} (idle : Idle J) (status : Status) (standing : Standing) (r : Ran J) → r ≡ came_of idle status standing → NoMemoryGoesOn r
+came_no_memory idle status standing r is = subst NoMemoryGoesOn (sym is) (no_memory_by idle status standing (must_end status standing) refl)
 
-pub over_unfed : {J : Type 0} (status : Status) (r : Ran J) → r ≡ ran.Over status → status ≢ statuses.Memory → GoesOnUnfed r
-over_unfed status r is other = subst GoesOnUnfed (sym is) other
+pub over_no_memory : {J : Type 0} (status : Status) (r : Ran J) → r ≡ ran.Over status → status ≢ statuses.Memory → NoMemoryGoesOn r
+over_no_memory status r is other = subst NoMemoryGoesOn (sym is) other
 
 pub over_anew : {J : Type 0} (status : Status) (r : Ran J) → r ≡ ran.Over status → IsAnew r
 over_anew status r is = subst IsAnew (sym is) tt

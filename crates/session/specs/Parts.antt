@@ -121,9 +121,9 @@ IsAnew (ran.Back s status standing) = standing ≢ standings.AsBefore
 IsAnew (ran.Over status) = ⊤
 
 -- want of memory alone does not end the call
-abbrev pub GoesOnUnfed : {J : Type 0} → Ran J → Type 0
-GoesOnUnfed (ran.Back s status standing) = ⊤
-GoesOnUnfed (ran.Over status) = status ≢ statuses.Memory
+abbrev pub NoMemoryGoesOn : {J : Type 0} → Ran J → Type 0
+NoMemoryGoesOn (ran.Back s status standing) = ⊤
+NoMemoryGoesOn (ran.Over status) = status ≢ statuses.Memory
 
 -- the call gives up by the status, or it ends for a restart or a reboot
 abbrev pub EndsCall : Status → Type 0

@@ -10,7 +10,7 @@ ghost use Rattle.disk_model.specs.Spares.{IsSameBut};
 ghost use Rattle.deploy_state.specs.States.{OwnsIdle, idle_device};
 ghost use Rattle.admission.specs.Takes.{LieElsewhere};
 ghost use Rattle.session_rollout.specs.Driven.{generation_left};
-ghost use Rattle.session.specs.Parts.{EndsRan, GoesOnUnfed, IsAnew, IsOver, IsUnbegun, OwnsRan, RanLeft, standing_of, status_of_ran};
+ghost use Rattle.session.specs.Parts.{EndsRan, NoMemoryGoesOn, IsAnew, IsOver, IsUnbegun, OwnsRan, RanLeft, standing_of, status_of_ran};
 ghost use Rattle.histories.specs.Phases.{Generation};
 ghost use Rattle.histories.specs.TraceEvents.{TraceEvent};
 ghost use Rattle.histories.specs.States.{SessionState, state_after};
@@ -100,7 +100,7 @@ pub(crate) fn end_closed<D: Disk, J: Journal + Drop, K: Sink, R: Runner, S: Supe
     ensures none { IsOver result → R.living runner.new ≡ [] }
     ensures ends_call { EndsRan result }
     ensures anew { IsAnew result }
-    ensures unfed { GoesOnUnfed result }
+    ensures no_memory { NoMemoryGoesOn result }
     ensures held { OwnsOver D.Disk J.Journal OwnsRan result disk.new }
     ensures spared { ChangesArtifactsAlone D.may_leave D.moment D.left_since disk.old disk.new }
     // The device has its artifacts at each moment.

@@ -16,7 +16,7 @@ ghost use Rattle.session_boots.specs.Lines.{id_of};
 ghost use Rattle.session_boots.specs.Traces.{ActTrace};
 ghost use Rattle.session_rollout.specs.Driven.{DrivenLeft, OwnsDriven, driven_device};
 ghost use Rattle.admission.specs.Takes.{LieElsewhere};
-ghost use Rattle.session.specs.Parts.{EndsRan, GoesOnUnfed, IsAnew, IsOver, IsUnbegun, OwnsRan, RanLeft, status_of_ran};
+ghost use Rattle.session.specs.Parts.{EndsRan, NoMemoryGoesOn, IsAnew, IsOver, IsUnbegun, OwnsRan, RanLeft, status_of_ran};
 ghost use Rattle.session.specs.Calls.{DrivenStatus, DrivenEnding, IsOrEdge, SaysEnding, SaysLine, ChangesArtifactsAlone};
 ghost use Rattle.session.specs.Endings.{ByDiskFault};
 ghost use Rattle.refusal_lines.specs.Statuses.{status_of_outcome};
@@ -74,7 +74,7 @@ fn end_driven<D: Disk, J: Journal + Drop, K: Sink, R: Runner, S: Supervise>(
     ensures ends_call { EndsRan result }
     ensures anew { IsAnew result }
     // Want of memory alone does not end the call.
-    ensures unfed { GoesOnUnfed result }
+    ensures no_memory { NoMemoryGoesOn result }
     ensures held { OwnsOver D.Disk J.Journal OwnsRan result disk.new }
     ensures spared { ChangesArtifactsAlone D.may_leave D.moment D.left_since disk.old disk.new }
     // The device has its artifacts at each moment.
@@ -134,7 +134,7 @@ pub(crate) fn end_call<D: Disk, J: Journal + Drop, K: Sink, R: Runner, S: Superv
     ensures ends_call { EndsRan result }
     ensures anew { IsAnew result }
     // Want of memory alone does not end the call.
-    ensures unfed { GoesOnUnfed result }
+    ensures no_memory { NoMemoryGoesOn result }
     ensures held { OwnsOver D.Disk J.Journal OwnsRan result disk.new }
     ensures spared { ChangesArtifactsAlone D.may_leave D.moment D.left_since disk.old disk.new }
     // The device has its artifacts at each moment.

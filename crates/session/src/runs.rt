@@ -24,7 +24,7 @@ ghost use Rattle.deploy_state.specs.Objects.{entry_start};
 ghost use Rattle.session.specs.Objects.{AcceptsFromOn, AcceptsTakenOn, HasArtifactsOn, RunsPlanOn, RunsTakenOn};
 ghost use Rattle.session.specs.Calls.{AllHoldBoth, AreOthersSame, IsReadiedOn, HasNotFallen};
 ghost use Rattle.session.specs.Documents.{TakesRead};
-ghost use Rattle.session.specs.Parts.{EndsRan, GoesOnUnfed, IsBack, IsOver, OwnsRan, TakesLast, status_of_ran};
+ghost use Rattle.session.specs.Parts.{EndsRan, NoMemoryGoesOn, IsBack, IsOver, OwnsRan, TakesLast, status_of_ran};
 ghost use Rattle.session_transitions.specs.Enters.{RunOn};
 ghost use Rattle.law_supervisor.specs.Sound.{IsOrderly};
 ghost use Rattle.law_termination.specs.Drives.{AreDriven};
@@ -118,7 +118,7 @@ where
     ensures none { IsOver result → R.living runner.new ≡ [] }
     ensures ends_call { EndsRan result }
     // Want of memory alone does not end the call.
-    ensures unfed { GoesOnUnfed result }
+    ensures no_memory { NoMemoryGoesOn result }
     ensures drives { IsBack result → AreDriven (S.world supervisor.new) }
     ensures held { OwnsOver D.Disk J.Journal OwnsRan result disk.new }
     ensures others { IsTrue D.is_modelled → AreOthersSame J.files (D.seen disk.old) (D.seen disk.new) }
@@ -205,7 +205,7 @@ where
     ensures none { IsOver result → R.living runner.new ≡ [] }
     ensures ends_call { EndsRan result }
     // Want of memory alone does not end the call.
-    ensures unfed { GoesOnUnfed result }
+    ensures no_memory { NoMemoryGoesOn result }
     ensures drives { IsBack result → AreDriven (S.world supervisor.new) }
     ensures held { OwnsOver D.Disk J.Journal OwnsRan result disk.new }
     ensures others { IsTrue D.is_modelled → AreOthersSame J.files (D.seen disk.old) (D.seen disk.new) }
@@ -279,7 +279,7 @@ where
     ensures none { IsOver result → R.living runner.new ≡ [] }
     ensures ends_call { EndsRan result }
     // Want of memory alone does not end the call.
-    ensures unfed { GoesOnUnfed result }
+    ensures no_memory { NoMemoryGoesOn result }
     ensures drives { IsBack result → AreDriven (S.world supervisor.new) }
     ensures held { OwnsOver D.Disk J.Journal OwnsRan result disk.new }
     ensures others { IsTrue D.is_modelled → AreOthersSame J.files (D.seen disk.old) (D.seen disk.new) }

@@ -82,7 +82,7 @@ module _ (content : Content) where
       EndsAs (IsDeployedThere content) most rounds last statuses.Memory old new d → AreClosed (records_of_last last)
   last_closed most rounds Spent old new d ends = inl refl
   last_closed most rounds Shut old new d ends = inl refl
-  last_closed most rounds (StoppedBy x) old new d ends = absurd (ends.fed refl)
+  last_closed most rounds (StoppedBy x) old new d ends = absurd (ends.memory refl)
   last_closed most rounds SweepFailed old new d ends = inl refl
   last_closed most rounds InboxFailed old new d ends = inl refl
   last_closed most rounds WantOfMemory old new d ends = inl refl

@@ -52,12 +52,12 @@ use Rattle.session.proofs.Accepted.{accepted_at}
 use Rattle.session.specs.Documents.{AcceptsTaken, TakenEnding, TakesRead}
 use Rattle.session.specs.Endings.{Ending, IsBegun, WantBefore, is_failing, line_of_ending, status_of_ending}
 use Rattle.session.specs.Endings.{BySinkFault, ByClose, ByDecline, ByDiskFault, WantAfter, Full, Idle as NothingPending, ByReboot, ByRestart}
-use Rattle.session.specs.Parts.{CameBy, EndsCall, EndsRan, GoesOnUnfed, IsGeneration, IsReturned, Part, QuitsPart, RanLeft, must_end, status_of_ran}
+use Rattle.session.specs.Parts.{CameBy, EndsCall, EndsRan, NoMemoryGoesOn, IsGeneration, IsReturned, Part, QuitsPart, RanLeft, must_end, status_of_ran}
 use Rattle.session.specs.declared.ran.Ran.{Ran}
 use Rattle.session.specs.declared.ran.Ran.TheVariants as ran
 use Rattle.session.specs.declared.ran.Standing.{Standing}
 use Rattle.session.specs.declared.ran.Standing.TheVariants as standings
-use Rattle.session_serving.specs.Documents.{IsOwnOrEdge, IsDeployedThere, IsEnded, IsHandled, IsOf, RecordsEnd, served_line, unfed_line, want_line}
+use Rattle.session_serving.specs.Documents.{IsOwnOrEdge, IsDeployedThere, IsEnded, IsHandled, IsOf, RecordsEnd, served_line, no_memory_line, want_line}
 use Rattle.session_serving.specs.Parts.{AllStandFor, AreOfFiles, HistoryKept, HoldsOn, IsStarted, Outside, IsStartShown}
 use Rattle.session_serving.specs.States.{IsAsked, IsUnopened}
 use Rattle.session_serving.specs.Rounds.{Handled}
@@ -432,11 +432,11 @@ module _ {D J : Type 0} (disk : a_disk.Ghosts D) (journal : a_journal.Ghosts J)
         (came : CameBy {J = J} (ran.Back s status standing) (records_of H)) (rose : status ≡ statuses.Disk → Rose old.faults new.faults)
         (quiet : status ≢ statuses.Disk → status ≢ statuses.Edge → new.faults ≡ old.faults)
         (stands : AllStandFor disk journal new.disk (state_after p H).device) where
-      stay : Stays (status_of_ending E) old.faults new.faults (records_of H) × (want_line (status_of_ending E) ≡ unfed_line status standing)
+      stay : Stays (status_of_ending E) old.faults new.faults (records_of H) × (want_line (status_of_ending E) ≡ no_memory_line status standing)
       stay = settled_stays s status standing on other (alone p) H old.faults new.faults came rose quiet part.ending part.ends part.answers
 
       -- the call goes on, with this line
-      handled_at : (last : Option (List ℕ)) → Appends new.held last (unfed_line status standing) →
+      handled_at : (last : Option (List ℕ)) → Appends new.held last (no_memory_line status standing) →
           IsHandled disk journal (IsDeployedThere content) old (record new { held = last }) p H X
       handled_at last said =
           let t = stay in
@@ -453,7 +453,7 @@ module _ {D J : Type 0} (disk : a_disk.Ghosts D) (journal : a_journal.Ghosts J)
           }
 
       -- that line could not be written
-      unsaid_at : (c : Option (List RunnerEntry)) (last : Option (List ℕ)) (g : List TraceEvent) → AppendsPrefix new.held last (unfed_line status standing) →
+      unsaid_at : (c : Option (List RunnerEntry)) (last : Option (List ℕ)) (g : List TraceEvent) → AppendsPrefix new.held last (no_memory_line status standing) →
           ActTrace (state_after p H) g new.list c → IsEnd (state_after (state_after p H) g) statuses.Edge false →
           IsEnded disk journal (IsDeployedThere content) old (record new { list = c; held = last }) p (g ++ H) X statuses.Edge false
       unsaid_at c last g said acts end =
@@ -466,7 +466,7 @@ module _ {D J : Type 0} (disk : a_disk.Ghosts D) (journal : a_journal.Ghosts J)
     ended_at : EndsCall status → status ≢ statuses.Memory → (status ≡ statuses.Disk → Rose old.faults new.faults) →
         (status ≢ statuses.Disk → status ≢ statuses.Edge → new.faults ≡ old.faults) → IsEnd (state_after (alone p) H) status (is_failing part.ending) →
         IsEnded disk journal (IsDeployedThere content) old new p H X status (is_failing part.ending)
-    ended_at ends fed rose quiet end = record {
+    ended_at ends memory rose quiet end = record {
       goes = goes;
       sure = record {
         most = part.stands;
@@ -482,12 +482,12 @@ module _ {D J : Type 0} (disk : a_disk.Ghosts D) (journal : a_journal.Ghosts J)
         prefix = subst (λ (l : List ℕ). AppendsPrefix old.held new.held l) lines_is
             (prefix_more old.held new.held Said (want_line X.status) part.prints.prefix);
         all = λ other. subst (λ (l : List ℕ). Appends old.held new.held l)
-            (sym (append-nil Said) ∙ ap (λ (l : List ℕ). Said ++ l) (sym (over_unsaid status (alone p) H part.ending part.ends fed other part.answers))
+            (sym (append-nil Said) ∙ ap (λ (l : List ℕ). Said ++ l) (sym (over_unsaid status (alone p) H part.ending part.ends memory other part.answers))
             ∙ lines_is) (part.prints.whole other);
       };
       is_of = is_of new.held;
-      with_status = over_settled status (alone p) H part.ending part.ends fed ends part.answers;
-      fed = fed;
+      with_status = over_settled status (alone p) H part.ending part.ends memory ends part.answers;
+      memory = memory;
       failed = rose;
       quiet = quiet;
       cause = λ on. failed (failing_is part.ending on);
@@ -538,19 +538,19 @@ module _ {D J : Type 0} (disk : a_disk.Ghosts D) (journal : a_journal.Ghosts J)
           asked.steady.generation asked.steady.opened (done_of p alike.answer alike.answered
           (subst (λ (o : Option Answer). IfSome o (λ x. is_document x ≡ true)) (sym asked.answer_is) refl)))
 
-      pub back_left : (last : Option (List ℕ)) → Appends new.held last (unfed_line st standing) →
+      pub back_left : (last : Option (List ℕ)) → Appends new.held last (no_memory_line st standing) →
           DocumentLeft disk journal (IsDeployedThere content) bytes (ran.Back s st standing) old (record new { held = last }) p part.history later now lives
       back_left last said = (
         Document,
         refl,
         handled_at (status_of_ran r) Leaves part alike taken takes follows failed disk_cause library_cause library_later whole accepts s standing on stays
             came_as rose quiet stand last
-            (subst (λ (z : Status). Appends new.held last (unfed_line z standing)) (sym (ap status_of_ran is)) said),
+            (subst (λ (z : Status). Appends new.held last (no_memory_line z standing)) (sym (ap status_of_ran is)) said),
         ready_left,
       )
 
       pub unsaid_left : (c : Option (List RunnerEntry)) (last : Option (List ℕ)) (g : List TraceEvent) (told_last : Told) (lives_last : List ℕ) →
-          AppendsPrefix new.held last (unfed_line st standing) → ActTrace (state_after p part.history) g new.list c →
+          AppendsPrefix new.held last (no_memory_line st standing) → ActTrace (state_after p part.history) g new.list c →
           IsEnd (state_after (state_after p part.history) g) statuses.Edge false →
           DocumentLeft {J = J} disk journal (IsDeployedThere content) bytes (ran.Over statuses.Edge) old (record new { list = c; held = last }) p
           (g ++ part.history) later told_last lives_last
@@ -560,15 +560,15 @@ module _ {D J : Type 0} (disk : a_disk.Ghosts D) (journal : a_journal.Ghosts J)
         refl,
         unsaid_at (status_of_ran r) Leaves part alike taken takes follows failed disk_cause library_cause library_later whole accepts s standing on stays
             came_as rose quiet stand c last g
-            (subst (λ (z : Status). AppendsPrefix new.held last (unfed_line z standing)) (sym (ap status_of_ran is)) said) acts end,
+            (subst (λ (z : Status). AppendsPrefix new.held last (no_memory_line z standing)) (sym (ap status_of_ran is)) said) acts end,
       )
 
-    pub over_left : (st : Status) → r ≡ ran.Over st → EndsRan r → GoesOnUnfed r →
+    pub over_left : (st : Status) → r ≡ ran.Over st → EndsRan r → NoMemoryGoesOn r →
         DocumentLeft {J = J} disk journal (IsDeployedThere content) bytes (ran.Over st) old new p part.history later now lives
-    over_left st is ends fed =
+    over_left st is ends memory =
         let status_is : status_of_ran r ≡ st = ap status_of_ran is in
         let own_ends : EndsCall st = subst EndsRan is ends in
-        let own_fed : st ≢ statuses.Memory = subst GoesOnUnfed is fed in
+        let own_memory : st ≢ statuses.Memory = subst NoMemoryGoesOn is memory in
         let end : IsEnd (state_after (alone p) part.history) st (is_failing part.ending) =
         subst (λ (x : Ran J). RanLeft p.generation x (is_failing part.ending) (state_after (alone p) part.history) later now lives) is part.left in (
           Document,
@@ -576,6 +576,6 @@ module _ {D J : Type 0} (disk : a_disk.Ghosts D) (journal : a_journal.Ghosts J)
           refl,
           subst (λ (z : Status). IsEnded disk journal (IsDeployedThere content) old new p part.history Document z (is_failing part.ending)) status_is
               (ended_at (status_of_ran r) Leaves part alike taken takes follows failed disk_cause library_cause library_later whole accepts
-              (subst EndsCall (sym status_is) own_ends) (λ memory. own_fed (sym status_is ∙ memory)) rose quiet
+              (subst EndsCall (sym status_is) own_ends) (λ memory. own_memory (sym status_is ∙ memory)) rose quiet
               (subst (λ (z : Status). IsEnd (state_after (alone p) part.history) z (is_failing part.ending)) (sym status_is) end)),
         )

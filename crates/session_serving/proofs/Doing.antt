@@ -142,7 +142,7 @@ module _ {D J : Type 0} (disk : a_disk.Ghosts D) (journal : a_journal.Ghosts J)
         writes = record { prefix = line; all = λ other. absurd (other refl) };
         is_of = of_then c told new.answered new.waiting c g o acts;
         with_status = inr refl;
-        fed = edge_memory;
+        memory = edge_memory;
         failed = λ failed. absurd (edge_disk failed);
         quiet = λ disk edge. absurd (edge refl);
         cause = λ on. absurd (false≢true on);
@@ -172,7 +172,7 @@ module _ {D J : Type 0} (disk : a_disk.Ghosts D) (journal : a_journal.Ghosts J)
           writes = record { prefix = prefix_behind old.held new.held told x.lines l i.lines line; all = λ other. absurd (other is) };
           is_of = of_then c told answered waiting c g i.is_of acts;
           with_status = inr is;
-          fed = λ unfed. edge_memory (sym is ∙ unfed);
+          memory = λ none. edge_memory (sym is ∙ none);
           failed = λ failed. absurd (edge_disk (sym is ∙ failed));
           quiet = λ disk edge. absurd (edge is);
           cause = λ on. absurd (false≢true on);
@@ -197,7 +197,7 @@ module _ {D J : Type 0} (disk : a_disk.Ghosts D) (journal : a_journal.Ghosts J)
       writes = record { prefix = i.writes.prefix; all = i.writes.all };
       is_of = of_as new.list new.held answered waiting i.is_of;
       with_status = i.with_status;
-      fed = i.fed;
+      memory = i.memory;
       failed = i.failed;
       quiet = i.quiet;
       cause = i.cause;
@@ -227,7 +227,7 @@ module _ {D J : Type 0} (disk : a_disk.Ghosts D) (journal : a_journal.Ghosts J)
       };
       is_of = of_as new.list told answered waiting i.is_of;
       with_status = inr is;
-      fed = λ unfed. edge_memory (sym is ∙ unfed);
+      memory = λ none. edge_memory (sym is ∙ none);
       failed = λ failed. absurd (edge_disk (sym is ∙ failed));
       quiet = λ disk edge. absurd (edge is);
       cause = i.cause;

@@ -35,7 +35,7 @@ use Rattle.deploy_state.specs.declared.state.Idle.{Idle}
 use Rattle.session.proofs.Distinct.{memory_disk}
 use Rattle.session.proofs.Ending.{closed_none}
 use Rattle.session.proofs.Statuses.{no_outcome, outcome_no_restart}
-use Rattle.session_serving.specs.Documents.{IsOwnOrEdge, RecordsEnd, unfed_line, want_line}
+use Rattle.session_serving.specs.Documents.{IsOwnOrEdge, RecordsEnd, no_memory_line, want_line}
 use Rattle.edges.specs.Pieces.{AppendsPrefix}
 use Rattle.edges.proofs.Sent.{prefix_longer}
 
@@ -201,7 +201,7 @@ outcome_unsaid outcomes.RollbackNotRequested = refl
 outcome_unsaid outcomes.UnableToRollback = refl
 
 -- another status than that is not said by itself
-unsaid : (status : Status) (standing : Standing) → (status ≡ statuses.Memory → standing ≡ standings.AsBefore) → want_line status ≡ unfed_line status standing
+unsaid : (status : Status) (standing : Standing) → (status ≡ statuses.Memory → standing ≡ standings.AsBefore) → want_line status ≡ no_memory_line status standing
 unsaid statuses.Memory standings.AsBefore only = refl
 unsaid statuses.Memory standings.OfSet only = absurd (never (only refl))
   where
@@ -259,7 +259,7 @@ module _ {J : Type 0} (s : Idle J) (status : Status) (standing : Standing) (on :
 
     -- and the line of that is said
     plain_stays : (ending : Ending) (ends : EndsPart p ending h) → ending ≢ WantAfter → IsOrEdge status (status_of_ending ending) →
-        Stays (status_of_ending ending) before now (records_of h) × (want_line (status_of_ending ending) ≡ unfed_line status standing)
+        Stays (status_of_ending ending) before now (records_of h) × (want_line (status_of_ending ending) ≡ no_memory_line status standing)
     plain_stays ending ends other answers =
         let is = own_status (status_of_ending ending) answers in
         let unmoved = unmoved_by ending ends other is in (
@@ -270,13 +270,13 @@ module _ {J : Type 0} (s : Idle J) (status : Status) (standing : Standing) (on :
 
     -- a close is said by its record
     unswept_line : (standing : Standing) (o : Outcome) → ClosesAs o (records_of h) → status ≡ statuses.Memory →
-        CameBy {J = J} (ran.Back s status standing) (records_of h) → unfed_line status standing ≡ []
+        CameBy {J = J} (ran.Back s status standing) (records_of h) → no_memory_line status standing ≡ []
     unswept_line standings.AsBefore o closes memory came = absurd (none_closes o (records_of h) came closes)
-    unswept_line standings.OfSet o closes memory came = ap (λ (z : Status). unfed_line z standings.OfSet) memory
-    unswept_line standings.Nobody o closes memory came = ap (λ (z : Status). unfed_line z standings.Nobody) memory
+    unswept_line standings.OfSet o closes memory came = ap (λ (z : Status). no_memory_line z standings.OfSet) memory
+    unswept_line standings.Nobody o closes memory came = ap (λ (z : Status). no_memory_line z standings.Nobody) memory
 
     closed_stays : (o : Outcome) → ClosesAs o (records_of h) → status ≡ statuses.Memory →
-        Stays (status_of_outcome o) before now (records_of h) × (want_line (status_of_outcome o) ≡ unfed_line status standing)
+        Stays (status_of_outcome o) before now (records_of h) × (want_line (status_of_outcome o) ≡ no_memory_line status standing)
     closed_stays o closes memory = (
       record {
         edge = no_outcome o statuses.Edge refl;
@@ -290,7 +290,7 @@ module _ {J : Type 0} (s : Idle J) (status : Status) (standing : Standing) (on :
 
     pub settled_stays : (ending : Ending) (ends : EndsPart p ending h) → IsOrEdge status (status_of_ending ending) →
         Stays (status_of_ending (settled p h ending ends)) before now (records_of h)
-        × (want_line (status_of_ending (settled p h ending ends)) ≡ unfed_line status standing)
+        × (want_line (status_of_ending (settled p h ending ends)) ≡ no_memory_line status standing)
     settled_stays (ByClose o) ends answers = plain_stays (ByClose o) ends (λ is. cc) answers
     settled_stays (ByRestart i) ends answers = plain_stays (ByRestart i) ends (λ is. cc) answers
     settled_stays (ByReboot i) ends answers = plain_stays (ByReboot i) ends (λ is. cc) answers
@@ -308,9 +308,9 @@ module _ {J : Type 0} (s : Idle J) (status : Status) (standing : Standing) (on :
 pub prefix_more : (a b : Option (List ℕ)) (x y : List ℕ) → AppendsPrefix a b x → AppendsPrefix a b (x ++ y)
 prefix_more a b x y one = prefix_longer a b (x ++ y) x y refl one
 
-unfed_none : (status : Status) → status ≢ statuses.Memory → want_line status ≡ []
-unfed_none statuses.Memory fed = absurd (fed refl)
-unfed_none status fed = refl
+no_memory_none : (status : Status) → status ≢ statuses.Memory → want_line status ≡ []
+no_memory_none statuses.Memory memory = absurd (memory refl)
+no_memory_none status memory = refl
 
 pub own_of : (status own : Status) → status ≢ statuses.Edge → IsOrEdge status own → status ≡ own
 own_of status own other (inl is) = is
@@ -330,30 +330,30 @@ module _ (status : Status) (p : SessionState) (h : List TraceEvent) where
   -- want of memory is not said
   pub over_unsaid : (ending : Ending) (ends : EndsPart p ending h) → status ≢ statuses.Memory → status ≢ statuses.Edge →
       IsOrEdge status (status_of_ending ending) → want_line (status_of_ending (settled p h ending ends)) ≡ []
-  over_unsaid (ByClose o) ends fed other answers = outcome_unsaid o
-  over_unsaid (ByRestart i) ends fed other answers = refl
-  over_unsaid (ByReboot i) ends fed other answers = refl
-  over_unsaid ByDiskFault ends fed other answers = refl
-  over_unsaid BySinkFault ends fed other answers = refl
-  over_unsaid WantAfter ends fed other answers = absurd (fed (own_of status statuses.Memory other answers))
-  over_unsaid WantBefore ends fed other answers = absurd (fed (own_of status statuses.Memory other answers))
-  over_unsaid (ByDecline x) ends fed other answers = ap want_line (sym (own_of status (status_of_declined x) other answers)) ∙ unfed_none status fed
-  over_unsaid (Full at) ends fed other answers = refl
-  over_unsaid NothingPending ends fed other answers = refl
+  over_unsaid (ByClose o) ends memory other answers = outcome_unsaid o
+  over_unsaid (ByRestart i) ends memory other answers = refl
+  over_unsaid (ByReboot i) ends memory other answers = refl
+  over_unsaid ByDiskFault ends memory other answers = refl
+  over_unsaid BySinkFault ends memory other answers = refl
+  over_unsaid WantAfter ends memory other answers = absurd (memory (own_of status statuses.Memory other answers))
+  over_unsaid WantBefore ends memory other answers = absurd (memory (own_of status statuses.Memory other answers))
+  over_unsaid (ByDecline x) ends memory other answers = ap want_line (sym (own_of status (status_of_declined x) other answers)) ∙ no_memory_none status memory
+  over_unsaid (Full at) ends memory other answers = refl
+  over_unsaid NothingPending ends memory other answers = refl
 
-  unfed_or_edge : (own : Status) → status ≢ statuses.Memory → IsOrEdge status statuses.Memory → IsOwnOrEdge own status
-  unfed_or_edge own fed (inl is) = absurd (fed is)
-  unfed_or_edge own fed (inr edge) = inr edge
+  no_memory_or_edge : (own : Status) → status ≢ statuses.Memory → IsOrEdge status statuses.Memory → IsOwnOrEdge own status
+  no_memory_or_edge own memory (inl is) = absurd (memory is)
+  no_memory_or_edge own memory (inr edge) = inr edge
 
   pub over_settled : (ending : Ending) (ends : EndsPart p ending h) → status ≢ statuses.Memory → EndsCall status →
       IsOrEdge status (status_of_ending ending) → IsOwnOrEdge (status_of_ending (settled p h ending ends)) status
-  over_settled (ByClose o) ends fed over answers = own_or_edge status (status_of_ending (ByClose o)) over answers
-  over_settled (ByRestart i) ends fed over answers = own_or_edge status (status_of_ending (ByRestart i)) over answers
-  over_settled (ByReboot i) ends fed over answers = own_or_edge status (status_of_ending (ByReboot i)) over answers
-  over_settled ByDiskFault ends fed over answers = own_or_edge status (status_of_ending ByDiskFault) over answers
-  over_settled BySinkFault ends fed over answers = own_or_edge status (status_of_ending BySinkFault) over answers
-  over_settled WantAfter ends fed over answers = unfed_or_edge (status_of_outcome ends.0) fed answers
-  over_settled WantBefore ends fed over answers = own_or_edge status (status_of_ending WantBefore) over answers
-  over_settled (ByDecline x) ends fed over answers = own_or_edge status (status_of_ending (ByDecline x)) over answers
-  over_settled (Full at) ends fed over answers = own_or_edge status (status_of_ending (Full at)) over answers
-  over_settled NothingPending ends fed over answers = own_or_edge status (status_of_ending NothingPending) over answers
+  over_settled (ByClose o) ends memory over answers = own_or_edge status (status_of_ending (ByClose o)) over answers
+  over_settled (ByRestart i) ends memory over answers = own_or_edge status (status_of_ending (ByRestart i)) over answers
+  over_settled (ByReboot i) ends memory over answers = own_or_edge status (status_of_ending (ByReboot i)) over answers
+  over_settled ByDiskFault ends memory over answers = own_or_edge status (status_of_ending ByDiskFault) over answers
+  over_settled BySinkFault ends memory over answers = own_or_edge status (status_of_ending BySinkFault) over answers
+  over_settled WantAfter ends memory over answers = no_memory_or_edge (status_of_outcome ends.0) memory answers
+  over_settled WantBefore ends memory over answers = own_or_edge status (status_of_ending WantBefore) over answers
+  over_settled (ByDecline x) ends memory over answers = own_or_edge status (status_of_ending (ByDecline x)) over answers
+  over_settled (Full at) ends memory over answers = own_or_edge status (status_of_ending (Full at)) over answers
+  over_settled NothingPending ends memory over answers = own_or_edge status (status_of_ending NothingPending) over answers

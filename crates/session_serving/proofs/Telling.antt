@@ -57,7 +57,7 @@ module _ {D J : Type 0} (disk : a_disk.Ghosts D) (journal : a_journal.Ghosts J) 
     run = s.run;
     clause = follows x s.clause;
     with_status = s.with_status;
-    fed = s.fed;
+    memory = s.memory;
     answered = s.answered;
     given = s.given;
   }

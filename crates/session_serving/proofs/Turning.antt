@@ -195,7 +195,7 @@ module _ {D J : Type 0} (disk : a_disk.Ghosts D) (journal : a_journal.Ghosts J)
             run = run_of h g x acts o.records o.behind i.goes.run;
             clause = o.clause;
             with_status = i.with_status;
-            fed = i.fed;
+            memory = i.memory;
             answered = subst (λ (z : Answered). new.answered ≡ (if is_restart status then after_done z else z)) answered last.answered;
             given = subst (λ (z : Option Waiting). new.waiting ≡ (if is_restart status then option_map without_first z else z)) same last.given;
           };

@@ -49,12 +49,12 @@ abbrev pub served_line : Ending → List ℕ
 served_line ending = line_of_ending ending ++ want_line (status_of_ending ending)
 
 -- there was no memory for it: it comes back so, and nothing was deployed
-abbrev pub is_unfed : Status → Standing → Bool
-is_unfed statuses.Memory standings.AsBefore = true
-is_unfed status standing = false
+abbrev pub found_no_memory : Status → Standing → Bool
+found_no_memory statuses.Memory standings.AsBefore = true
+found_no_memory status standing = false
 
-abbrev pub unfed_line : Status → Standing → List ℕ
-unfed_line status standing = if is_unfed status standing then memory_line else []
+abbrev pub no_memory_line : Status → Standing → List ℕ
+no_memory_line status standing = if found_no_memory status standing then memory_line else []
 
 -- ---- what is promised of one document
 
@@ -141,7 +141,7 @@ module _ {D J : Type 0} (disk : a_disk.Ghosts D) (journal : a_journal.Ghosts J) 
     pub writes : LinesWritten disk journal old.held new.held status lines
     pub is_of : IsOf old new p h x
     pub with_status : IsOwnOrEdge x.status status
-    pub fed : status ≢ statuses.Memory
+    pub memory : status ≢ statuses.Memory
     pub failed : status ≡ statuses.Disk → Rose old.faults new.faults
     pub quiet : status ≢ statuses.Disk → status ≢ statuses.Edge → new.faults ≡ old.faults
     pub cause : rose ≡ true → Rose old.faults new.faults

@@ -55,7 +55,7 @@ pub record StopsBy (Clause : Handled → Type 0) {D : Type 0} (x : Handled) (sta
   pub run : Run d x.records x.behind
   pub clause : Clause x
   pub with_status : IsOwnOrEdge x.status status
-  pub fed : status ≢ statuses.Memory
+  pub memory : status ≢ statuses.Memory
   pub answered : new.answered ≡ (if is_restart status then after_done (after_answer Document old.answered) else after_answer Document old.answered)
   pub given : new.waiting ≡ (if is_restart status then option_map without_first old.waiting else old.waiting)
 

@@ -17,7 +17,7 @@ ghost use Rattle.session.specs.Calls.{IsOrEdge, SaysLine};
 ghost use Rattle.session.specs.Parts.{IsReturned};
 ghost use Rattle.session_serving.specs.States.{AreUp};
 ghost use Rattle.session_serving.specs.Served.{ended_line};
-ghost use Rattle.session_serving.specs.Documents.{is_unfed, memory_line, unfed_line};
+ghost use Rattle.session_serving.specs.Documents.{found_no_memory, memory_line, no_memory_line};
 ghost use Rattle.session_serving.specs.Turns.{GivesUpBy, inbox_line, line_of_fault};
 
 use components::Supervise;
@@ -46,8 +46,8 @@ pub(crate) fn say_inbox<K: Sink>(sink: &mut K) -> Status
 }
 
 /// Whether there was no memory for a document, where a deployment comes back so.
-fn is_unfed(status: Status, standing: Standing) -> bool
-    ensures { result ≡ is_unfed status standing }
+fn found_no_memory(status: Status, standing: Standing) -> bool
+    ensures { result ≡ found_no_memory status standing }
 {
     match status {
         Status::Memory => match standing {
@@ -74,19 +74,19 @@ fn say_memory<K: Sink>(sink: &mut K) -> Result<(), EdgeFault>
 }
 
 /// Prints that there was no memory for a document, where a deployment comes back so.
-pub(crate) fn say_unfed<K: Sink>(
+pub(crate) fn say_if_no_memory<K: Sink>(
     status: Status,
     standing: Standing,
     sink: &mut K,
 ) -> Result<(), EdgeFault>
-    ensures line { AppendsPrefix (K.held sink.old) (K.held sink.new) (unfed_line status standing) }
+    ensures line { AppendsPrefix (K.held sink.old) (K.held sink.new) (no_memory_line status standing) }
     // All of it, unless the sink fails.
-    ensures whole { OnOk result (Appends (K.held sink.old) (K.held sink.new) (unfed_line status standing)) }
+    ensures whole { OnOk result (Appends (K.held sink.old) (K.held sink.new) (no_memory_line status standing)) }
     ensures edge { OnErr result (Rose (K.faults sink.old) (K.faults sink.new)) }
     ensures quiet { OnOk result (K.faults sink.new ≡ K.faults sink.old) }
     ensures later { K.faults sink.old ≤ K.faults sink.new }
 {
-    if !is_unfed(status, standing) {
+    if !found_no_memory(status, standing) {
         return Ok(());
     }
     say_memory(sink)

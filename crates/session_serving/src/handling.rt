@@ -16,7 +16,7 @@ ghost use Rattle.session_serving.specs.States.{AreUp, IsAsked};
 ghost use Rattle.session_serving.specs.Turns.{DocumentLeft, HandleLeft, HasEnded, OwnsTurned, StaysRan, UpRan, UpTurned, status_of_turned};
 ghost use Rattle.library_core.specs.Library.{StaysTold};
 
-use crate::ends::{give_up, say_inbox, say_unfed};
+use crate::ends::{give_up, say_inbox, say_if_no_memory};
 use crate::standing::stand_again;
 use crate::turned::{Owed, Turned};
 use components::Supervise;
@@ -72,7 +72,7 @@ where
     match run_document(
         alloc, idle, document, disk, library, sink, runner, supervisor,
     ) {
-        Ran::Back(idle, status, standing) => match say_unfed(status, standing, sink) {
+        Ran::Back(idle, status, standing) => match say_if_no_memory(status, standing, sink) {
             Ok(()) => {
                 *owed = owed.after(status);
                 Ran::Back(idle, status, standing)

@@ -125,9 +125,9 @@ returns-in-Err-Disk-clause-ends_call g c = edge_ends c.say_disk.result statuses.
 pub returns-in-Err-Output-clause-ends_call : goal.returns-in-Err-Output-clause-ends_call
 returns-in-Err-Output-clause-ends_call g c = inl refl
 
-pub returns-in-Err-Disk-clause-unfed : goal.returns-in-Err-Disk-clause-unfed
-returns-in-Err-Disk-clause-unfed g c = λ is. two_never c.say_disk.result statuses.Disk statuses.Edge statuses.Memory c.say_disk.ensures.answers (λ e. cc)
+pub returns-in-Err-Disk-clause-no_memory : goal.returns-in-Err-Disk-clause-no_memory
+returns-in-Err-Disk-clause-no_memory g c = λ is. two_never c.say_disk.result statuses.Disk statuses.Edge statuses.Memory c.say_disk.ensures.answers (λ e. cc)
     (λ e. cc) is
 
-pub returns-in-Err-Output-clause-unfed : goal.returns-in-Err-Output-clause-unfed
-returns-in-Err-Output-clause-unfed g c = λ is. cc
+pub returns-in-Err-Output-clause-no_memory : goal.returns-in-Err-Output-clause-no_memory
+returns-in-Err-Output-clause-no_memory g c = λ is. cc

@@ -23,7 +23,7 @@ use Rattle.session.specs.Parts.{CameBy, RanLeft, status_of_ran}
 use Rattle.session.specs.declared.ran.Standing.TheVariants as standings
 use Rattle.session.proofs.Distinct.{differs, memory_disk, memory_edge, memory_library, starves_fails}
 use Rattle.session.proofs.Ending.{declined_parted, nothing_parted, taken_behind}
-use Rattle.session.proofs.Returning.{came_ends, came_held, came_unbegun, came_unfed, status_came}
+use Rattle.session.proofs.Returning.{came_ends, came_held, came_unbegun, came_no_memory, status_came}
 use Rattle.session.proofs.Faults.{rose_on, stays_later, stays_on}
 use Rattle.session.proofs.Holding.{taken_both, taken_whole}
 use Rattle.session.proofs.States.{open_returned}
@@ -325,10 +325,10 @@ pub returns-in-Err-ready_for-clause-ends_call : goal.returns-in-Err-ready_for-cl
 returns-in-Err-ready_for-clause-ends_call g c =
     came_ends c.args.idle statuses.Memory standings.AsBefore c.back_or_over-in-Err-ready_for.result c.back_or_over-in-Err-ready_for.ensures.exact
 
-pub returns-in-Err-clause-unfed : goal.returns-in-Err-clause-unfed
-returns-in-Err-clause-unfed g c =
-    came_unfed c.args.idle c.say_declined-status.result standings.AsBefore c.back_or_over.result c.back_or_over.ensures.exact
+pub returns-in-Err-clause-no_memory : goal.returns-in-Err-clause-no_memory
+returns-in-Err-clause-no_memory g c =
+    came_no_memory c.args.idle c.say_declined-status.result standings.AsBefore c.back_or_over.result c.back_or_over.ensures.exact
 
-pub returns-in-Err-ready_for-clause-unfed : goal.returns-in-Err-ready_for-clause-unfed
-returns-in-Err-ready_for-clause-unfed g c =
-    came_unfed c.args.idle statuses.Memory standings.AsBefore c.back_or_over-in-Err-ready_for.result c.back_or_over-in-Err-ready_for.ensures.exact
+pub returns-in-Err-ready_for-clause-no_memory : goal.returns-in-Err-ready_for-clause-no_memory
+returns-in-Err-ready_for-clause-no_memory g c =
+    came_no_memory c.args.idle statuses.Memory standings.AsBefore c.back_or_over-in-Err-ready_for.result c.back_or_over-in-Err-ready_for.ensures.exact

@@ -24,7 +24,7 @@ use Rattle.session.specs.Endings.{Ending, is_failing}
 use Rattle.session.specs.Parts.{RanLeft, status_of_ran}
 use Rattle.session.specs.declared.ran.Standing.TheVariants as standings
 use Rattle.session.proofs.Ending.{declined_parted, still_files}
-use Rattle.session.proofs.Returning.{came_ends, came_held, came_unbegun, came_unfed, status_came}
+use Rattle.session.proofs.Returning.{came_ends, came_held, came_unbegun, came_no_memory, status_came}
 use Rattle.session.proofs.Taken.{unread_taken}
 use Rattle.session.proofs.Faults.{stays_later}
 use Rattle.session.proofs.States.{open_returned}
@@ -149,6 +149,6 @@ pub returns-in-Err-clause-ends_call : goal.returns-in-Err-clause-ends_call
 returns-in-Err-clause-ends_call g c =
     came_ends c.args.idle c.say_refusal-status.result standings.AsBefore c.back_or_over.result c.back_or_over.ensures.exact
 
-pub returns-in-Err-clause-unfed : goal.returns-in-Err-clause-unfed
-returns-in-Err-clause-unfed g c =
-    came_unfed c.args.idle c.say_refusal-status.result standings.AsBefore c.back_or_over.result c.back_or_over.ensures.exact
+pub returns-in-Err-clause-no_memory : goal.returns-in-Err-clause-no_memory
+returns-in-Err-clause-no_memory g c =
+    came_no_memory c.args.idle c.say_refusal-status.result standings.AsBefore c.back_or_over.result c.back_or_over.ensures.exact

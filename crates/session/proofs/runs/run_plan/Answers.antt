@@ -35,12 +35,12 @@ use Rattle.session.specs.Parts.{CameBy, IsReturned, Part, RanLeft, status_of_ran
 use Rattle.session.specs.declared.ran.Standing.TheVariants as standings
 use Rattle.session_admission.specs.Accepts.{HasDiskFailed}
 use Rattle.session.specs.Endings.{Ending, BySinkFault, ByDiskFault, Full, WantBefore, full_line, is_failing}
-use Rattle.session.proofs.Distinct.{breaks_fails, differs, edge_other, fails_fed, full_fails, full_starves, memory_disk, memory_edge, memory_library, starves_fails}
+use Rattle.session.proofs.Distinct.{breaks_fails, differs, edge_other, fails_memory, full_fails, full_starves, memory_disk, memory_edge, memory_library, starves_fails}
 use Rattle.session.proofs.Accepted.{any_moment, any_on}
 use Rattle.session.proofs.Ending.{HasFiles, begins_by, doubt_left, doubt_parted, first_of, joined_on, nothing_parted, parted, placed_at}
 use Rattle.session.proofs.Ending.{returned_parted, still_files}
-use Rattle.session.proofs.Returning.{back_driven, came_begun, came_ends, came_held, came_unbegun, came_unfed, edge_ends, once_open, over_came, over_ends}
-use Rattle.session.proofs.Returning.{over_never, over_status, over_unfed, status_came}
+use Rattle.session.proofs.Returning.{back_driven, came_begun, came_ends, came_held, came_unbegun, came_no_memory, edge_ends, once_open, over_came, over_ends}
+use Rattle.session.proofs.Returning.{over_never, over_status, over_no_memory, status_came}
 use Rattle.session.proofs.Faults.{rose_by, rose_on, stays_by, stays_on}
 use Rattle.session.proofs.Holding.{all_before}
 use Rattle.session.proofs.States.{accepted_may, open_returned}
@@ -458,7 +458,7 @@ returns-in-Ok-NoRoom-clause-call g c = λ p opens taking.
     held last p (status_of_ran ran) status leaves plan ByDiskFault k.0
     (status_came idle status standings.AsBefore ran exact) back stands
     k.1 k.2 c.say_disk-status.ensures.answers
-    (said_prints _ held last p.device ByDiskFault status stands fails_fed
+    (said_prints _ held last p.device ByDiskFault status stands fails_memory
     (ap (λ (e : Device). e.pending) opens.stands.device_is ∙ c.requires.held.1)
     (subst (λ (h : Option (List ℕ)). SaysLine h last status disk_line) silent c.say_disk-status.ensures.says))
     tt (k.3 true) in
@@ -522,8 +522,8 @@ pub returns-in-Ok-NoRoom-clause-ends_call : goal.returns-in-Ok-NoRoom-clause-end
 returns-in-Ok-NoRoom-clause-ends_call g c = came_ends c.in-Ok-NoRoom.idle c.say_disk-status.result standings.AsBefore c.back_or_over-in-Ok-NoRoom.result
     c.back_or_over-in-Ok-NoRoom.ensures.exact
 
-pub returns-in-Ok-NoRoom-clause-unfed : goal.returns-in-Ok-NoRoom-clause-unfed
-returns-in-Ok-NoRoom-clause-unfed g c = came_unfed c.in-Ok-NoRoom.idle c.say_disk-status.result standings.AsBefore c.back_or_over-in-Ok-NoRoom.result
+pub returns-in-Ok-NoRoom-clause-no_memory : goal.returns-in-Ok-NoRoom-clause-no_memory
+returns-in-Ok-NoRoom-clause-no_memory g c = came_no_memory c.in-Ok-NoRoom.idle c.say_disk-status.result standings.AsBefore c.back_or_over-in-Ok-NoRoom.result
     c.back_or_over-in-Ok-NoRoom.ensures.exact
 
 -- ---- the disk failed
@@ -699,17 +699,17 @@ returns-in-Err-Disk-clause-ends_call g c = over_ends c.say_disk-status-in-Err-Di
 pub returns-in-Err-Output-clause-ends_call : goal.returns-in-Err-Output-clause-ends_call
 returns-in-Err-Output-clause-ends_call g c = over_ends statuses.Edge c.give_up-in-Err-Output.result c.give_up-in-Err-Output.ensures.over (inl refl)
 
-pub returns-in-Ok-Full-clause-unfed : goal.returns-in-Ok-Full-clause-unfed
-returns-in-Ok-Full-clause-unfed g c =
-    came_unfed c.in-Ok-Full.idle c.say_full-status.result standings.AsBefore c.back_or_over.result c.back_or_over.ensures.exact
+pub returns-in-Ok-Full-clause-no_memory : goal.returns-in-Ok-Full-clause-no_memory
+returns-in-Ok-Full-clause-no_memory g c =
+    came_no_memory c.in-Ok-Full.idle c.say_full-status.result standings.AsBefore c.back_or_over.result c.back_or_over.ensures.exact
 
-pub returns-in-Ok-NoMemory-clause-unfed : goal.returns-in-Ok-NoMemory-clause-unfed
-returns-in-Ok-NoMemory-clause-unfed g c =
-    came_unfed c.in-Ok-NoMemory.idle statuses.Memory standings.AsBefore c.back_or_over-in-Ok-NoMemory.result c.back_or_over-in-Ok-NoMemory.ensures.exact
+pub returns-in-Ok-NoMemory-clause-no_memory : goal.returns-in-Ok-NoMemory-clause-no_memory
+returns-in-Ok-NoMemory-clause-no_memory g c =
+    came_no_memory c.in-Ok-NoMemory.idle statuses.Memory standings.AsBefore c.back_or_over-in-Ok-NoMemory.result c.back_or_over-in-Ok-NoMemory.ensures.exact
 
-pub returns-in-Err-Disk-clause-unfed : goal.returns-in-Err-Disk-clause-unfed
-returns-in-Err-Disk-clause-unfed g c = over_unfed c.say_disk-status-in-Err-Disk.result c.give_up.result c.give_up.ensures.over
+pub returns-in-Err-Disk-clause-no_memory : goal.returns-in-Err-Disk-clause-no_memory
+returns-in-Err-Disk-clause-no_memory g c = over_no_memory c.say_disk-status-in-Err-Disk.result c.give_up.result c.give_up.ensures.over
     (λ is. two_never c.say_disk-status-in-Err-Disk.result statuses.Disk statuses.Edge statuses.Memory c.say_disk-status-in-Err-Disk.ensures.answers (λ e. cc) (λ e. cc) is)
 
-pub returns-in-Err-Output-clause-unfed : goal.returns-in-Err-Output-clause-unfed
-returns-in-Err-Output-clause-unfed g c = over_unfed statuses.Edge c.give_up-in-Err-Output.result c.give_up-in-Err-Output.ensures.over (λ is. cc)
+pub returns-in-Err-Output-clause-no_memory : goal.returns-in-Err-Output-clause-no_memory
+returns-in-Err-Output-clause-no_memory g c = over_no_memory statuses.Edge c.give_up-in-Err-Output.result c.give_up-in-Err-Output.ensures.over (λ is. cc)

@@ -68,7 +68,7 @@ returns-in-Ok-clause-left g c = λ p asked.
           (idle_stands g.D.Disk g.J.Journal g.met.D.Disk.laws g.met.J.Journal.laws c.in-Back.idle c.run_document.new.disk
           (subst (λ (x : Ran _). OwnsOver g.D.Disk g.J.Journal OwnsRan x c.run_document.new.disk) c.in-Back.is c.run_document.ensures.held)
           (idle_device c.in-Back.idle) refl)
-          (g.K.Sink.held c.say_unfed.new.sink) c.in-Ok.ensures.whole,
+          (g.K.Sink.held c.say_if_no_memory.new.sink) c.in-Ok.ensures.whole,
     )
 
 pub returns-in-Ok-clause-held : goal.returns-in-Ok-clause-held
@@ -124,7 +124,7 @@ returns-in-Ok-clause-caused g c =
     let stays = subst (λ (x : Ran _). StaysRan x) c.in-Back.is
     (stays_ran c.run_document.result (alone q.0).generation (is_failing part.ending) (state_after (alone q.0) part.history)
     (g.S.Supervise.world c.run_document.new.supervisor) now (g.R.Runner.living c.run_document.new.runner) part.left) in
-    let later = c.say_unfed.ensures.later in
+    let later = c.say_if_no_memory.ensures.later in
     let still = c.in-Ok.ensures.quiet in
     record {
       disk = λ is. c.run_document.ensures.disk (same ∙ is);
@@ -212,19 +212,19 @@ returns-in-Err-clause-left g c = λ p asked.
           (idle_stands g.D.Disk g.J.Journal g.met.D.Disk.laws g.met.J.Journal.laws c.in-Back.idle c.run_document.new.disk
           (subst (λ (x : Ran _). OwnsOver g.D.Disk g.J.Journal OwnsRan x c.run_document.new.disk) c.in-Back.is c.run_document.ensures.held)
           (idle_device c.in-Back.idle) refl)
-          (g.R.Runner.list c.give_up.new.runner) (g.K.Sink.held c.say_unfed.new.sink) k.0
-          (Listed g.R.Runner.list g.R.Runner.told g.R.Runner.asked c.give_up.new.runner) (g.R.Runner.living c.give_up.new.runner) c.say_unfed.ensures.line k.1
+          (g.R.Runner.list c.give_up.new.runner) (g.K.Sink.held c.say_if_no_memory.new.sink) k.0
+          (Listed g.R.Runner.list g.R.Runner.told g.R.Runner.asked c.give_up.new.runner) (g.R.Runner.living c.give_up.new.runner) c.say_if_no_memory.ensures.line k.1
           (k.2 statuses.Edge false refl),
     )
 
 pub returns-in-Err-clause-caused : goal.returns-in-Err-clause-caused
 returns-in-Err-clause-caused g c =
-    let later = c.say_unfed.ensures.later in
+    let later = c.say_if_no_memory.ensures.later in
     let rose = c.in-Err.ensures.edge in
     let before = c.run_document.ensures.later.1 in
     record {
       disk = λ is. absurd (edge_disk is);
-      edge = λ is. inl (rose_since (g.K.Sink.faults c.args.sink.now) (g.K.Sink.faults c.run_document.new.sink) (g.K.Sink.faults c.say_unfed.new.sink) before rose);
+      edge = λ is. inl (rose_since (g.K.Sink.faults c.args.sink.now) (g.K.Sink.faults c.run_document.new.sink) (g.K.Sink.faults c.say_if_no_memory.new.sink) before rose);
       quiet_edges = λ edge. absurd (edge refl);
       later = (
         c.run_document.ensures.later.0,
@@ -259,7 +259,7 @@ returns-in-Over-clause-left g c = λ p asked.
       over_left g.D.Disk g.J.Journal g.met.D.Disk.laws g.met.J.Journal.laws c.requires.apart c.requires.own (g.L.Library.content c.args.library.now)
           (g.L.Library.content c.run_document.new.library) c.run_document.ensures.kept.content c.args.idle c.args.document.now old mid c.requires.held p world told living asked r later now lives part alike t.0 t.1 t.2.1 t.2.2 t.4 t.5 t.6
           c.run_document.ensures.library_later t.3 t.7 c.run_document.ensures.disk c.run_document.ensures.quiet_disk
-          c.in-Over.status c.in-Over.is c.run_document.ensures.ends_call c.run_document.ensures.unfed,
+          c.in-Over.status c.in-Over.is c.run_document.ensures.ends_call c.run_document.ensures.no_memory,
     )
 
 pub returns-in-Over-clause-none : goal.returns-in-Over-clause-none
