@@ -1,9 +1,11 @@
 -- A count of the entries of a journal.
-use Rattle.std.proofs.Common.{◌≡◌, ◌∙◌, ◌+◌, ◌<◌, ◌≤◌, ◌∷◌, ◌++◌, [], ℕ, List, Option, Some, None, Ok, refl, sym, ap, subst, arith, length}
+use Rattle.std.proofs.Common.{◌≡◌, ◌∙◌, ◌+◌, ◌<◌, ◌≤◌, ◌∷◌, ◌++◌, [], ℕ, List, Option, Some, None, Result, Ok, Err, IfOk, refl, sym, ap, subst, arith, length}
 use Rattle.std.proofs.Common.{append_assoc, length-append}
 use Rattle.std.proofs.lemmas.List.{append-nil}
 use Rattle.disk_model.specs.Disk.{Image}
+use Rattle.gate_log.specs.Found.{FindsBy}
 use Rattle.gate_log.specs.Place.{IsEntryAt, place_behind}
+use Rattle.gate_log.specs.declared.entry.EntryFault.{EntryFault}
 use Rattle.checkpoint_log.specs.Laws.{slots_laws}
 use Rattle.checkpoint_log.specs.Slots.{slots_entries, slots_stands, slots_none, slots_damaged}
 use Rattle.checkpoint_log.specs.declared.slots.Slots.{Slots}
@@ -118,6 +120,15 @@ tells image payloads t live records_are unknown_is = (
   λ others too. records_are ∙ ap length (slots_laws.one image payloads others live too),
   tells_unknown image payloads live t.unknown unknown_is,
 )
+
+-- what is counted in a journal that was found
+pub counted_told : (log : Slots) (image : Image) (r : Result Tally EntryFault) → FindsBy slots_none slots_damaged slots_stands image (Ok log)
+    → ((payloads : List (List ℕ)) → slots_stands log image payloads →
+      IfOk r (λ (t : Tally). (t.records ≡ length payloads) × (t.unknown ≡ unknown_from 0 payloads))) → TallyAnswer image r
+counted_told log image (Ok t) found counts =
+    let all = counts found.0 found.1 in
+    tells image found.0 t (slots_laws.holds log image found.0 found.1) all.0 all.1
+counted_told log image (Err f) found counts = tt
 
 -- a journal without an entry has none
 pub none_told : (image : Image) (t : Tally) → slots_none image → t.records ≡ 0 → t.unknown ≡ None → TallyAnswer image (Ok t)
