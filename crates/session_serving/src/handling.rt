@@ -16,7 +16,7 @@ ghost use Rattle.session_serving.specs.States.{AreUp, IsAsked};
 ghost use Rattle.session_serving.specs.Turns.{DocumentLeft, HandleLeft, HasEnded, OwnsTurned, StaysRan, UpRan, UpTurned, status_of_turned};
 ghost use Rattle.library_core.specs.Library.{StaysTold};
 
-use crate::ends::{give_up, say_inbox, say_if_no_memory};
+use crate::ends::{give_up, say_if_no_memory, say_inbox};
 use crate::standing::stand_again;
 use crate::turned::{Owed, Turned};
 use components::Supervise;

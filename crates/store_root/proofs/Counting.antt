@@ -124,7 +124,7 @@ tells image payloads t live records_are unknown_is = (
 -- what is counted in a journal that was found
 pub counted_told : (log : Slots) (image : Image) (r : Result Tally EntryFault) → FindsBy slots_none slots_damaged slots_stands image (Ok log)
     → ((payloads : List (List ℕ)) → slots_stands log image payloads →
-      IfOk r (λ (t : Tally). (t.records ≡ length payloads) × (t.unknown ≡ unknown_from 0 payloads))) → TallyAnswer image r
+    IfOk r (λ (t : Tally). (t.records ≡ length payloads) × (t.unknown ≡ unknown_from 0 payloads))) → TallyAnswer image r
 counted_told log image (Ok t) found counts =
     let all = counts found.0 found.1 in
     tells image found.0 t (slots_laws.holds log image found.0 found.1) all.0 all.1

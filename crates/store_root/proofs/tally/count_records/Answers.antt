@@ -10,7 +10,7 @@ pub returns-in-Ok-clause-told : goal.returns-in-Ok-clause-told
 returns-in-Ok-clause-told g c = λ told.
     counted_told c.in-Ok.log (g.D.Disk.seen c.args.disk.now) c.count_entries.result (c.in-Ok.ensures.told told)
     (λ payloads on. c.count_entries.ensures.told told payloads
-      (subst (λ (image : Image). slots_stands c.in-Ok.log image payloads) (sym c.in-Ok.ensures.seen) on))
+    (subst (λ (image : Image). slots_stands c.in-Ok.log image payloads) (sym c.in-Ok.ensures.seen) on))
 
 pub returns-in-Err-NotInitialised-clause-told : goal.returns-in-Err-NotInitialised-clause-told
 returns-in-Err-NotInitialised-clause-told g c = λ told.
