@@ -111,11 +111,11 @@ module _ {J : Type 0} (x : Taken J) where
 
 -- ---- it is not given back
 
-pub disk_failed : {J : Type 0} (e : SessionFault) → e ≡ over.Disk → HasDiskFailed {J = J} (Err e)
-disk_failed e is = subst (λ (x : SessionFault). HasDiskFailed (Err x)) (sym is) tt
+pub disk_failed : {J : Type 0} (s : Idle J) (e : SessionFault) → e ≡ over.Disk → HasDiskFailed {J = J} (Err e)
+disk_failed {J = J} s e is = subst (λ (x : SessionFault). HasDiskFailed {J = J} (Err x)) (sym is) tt
 
-pub output_unfailed : {J : Type 0} (e : SessionFault) → e ≡ over.Output → HasDiskFailed {J = J} (Err e) → ⊥
-output_unfailed e is failed = subst (λ (x : SessionFault). HasDiskFailed (Err x)) is failed
+pub output_unfailed : {J : Type 0} (s : Idle J) (e : SessionFault) → e ≡ over.Output → HasDiskFailed {J = J} (Err e) → ⊥
+output_unfailed {J = J} s e is failed = subst (λ (x : SessionFault). HasDiskFailed {J = J} (Err x)) is failed
 
 -- ---- the bytes are no document
 

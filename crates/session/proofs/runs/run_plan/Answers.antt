@@ -1,4 +1,4 @@
-use Rattle.std.proofs.Common.{◌≡◌, ◌⊎◌, ℕ, List, [], ◌∷◌, false, inl, inr, refl, sym, ap, subst, ◌∙◌}
+use Rattle.std.proofs.Common.{◌≡◌, ◌⊎◌, ℕ, List, [], ◌∷◌, false, true, inl, inr, refl, sym, ap, subst, ◌∙◌}
 use Rattle.std.specs.Prelude.{Bool, Option, Err, IsErrOf}
 use Rattle.disk_model.specs.Disk.{Image, HasLeft}
 use Rattle.disk_model.specs.Listing.{artifacts, IsBelow}
@@ -573,14 +573,14 @@ returns-in-Err-Disk-clause-call g c = λ p opens taking.
     (λ behind. doubt_left g.J.Journal.entries g.D.Disk.may_leave over.Disk c.accept_plan.new.disk p k.0 plan p.generation world end lives status ran
     c.give_up.ensures.over k.4 behind c.say_disk-status-in-Err-Disk.ensures.answers)
     (λ records. CameBy ran records) (λ records. over_came status ran records c.give_up.ensures.over) in
-    (r.0, r.1, (λ fails. c.in-Err-Disk.ensures.disk (disk_failed c.in-Err-Disk.field-0 c.in-Err-Disk.field-0-is)), inr (inl (r.2, r.3)))
+    (r.0, r.1, (λ fails. c.in-Err-Disk.ensures.disk (disk_failed c.args.idle c.in-Err-Disk.field-0 c.in-Err-Disk.field-0-is)), inr (inl (r.2, r.3)))
 
 pub returns-in-Err-Disk-clause-own : goal.returns-in-Err-Disk-clause-own
 returns-in-Err-Disk-clause-own g c = λ is. two_never c.say_disk-status-in-Err-Disk.result statuses.Disk statuses.Edge statuses.Library c.say_disk-status-in-Err-Disk.ensures.answers
     (λ e. cc) (λ e. cc) (sym (over_status c.say_disk-status-in-Err-Disk.result c.give_up.result c.give_up.ensures.over) ∙ is)
 
 pub returns-in-Err-Disk-clause-disk : goal.returns-in-Err-Disk-clause-disk
-returns-in-Err-Disk-clause-disk g c = λ is. c.in-Err-Disk.ensures.disk (disk_failed c.in-Err-Disk.field-0 c.in-Err-Disk.field-0-is)
+returns-in-Err-Disk-clause-disk g c = λ is. c.in-Err-Disk.ensures.disk (disk_failed c.args.idle c.in-Err-Disk.field-0 c.in-Err-Disk.field-0-is)
 
 pub returns-in-Err-Disk-clause-drives : goal.returns-in-Err-Disk-clause-drives
 returns-in-Err-Disk-clause-drives g c = λ back. absurd (over_never c.say_disk-status-in-Err-Disk.result c.give_up.result c.give_up.ensures.over
@@ -645,7 +645,7 @@ returns-in-Err-Output-clause-call g c = λ p opens taking.
 
 pub returns-in-Err-Output-clause-quiet_disk : goal.returns-in-Err-Output-clause-quiet_disk
 returns-in-Err-Output-clause-quiet_disk g c = λ disk edge.
-    c.in-Err-Output.ensures.quiet_disk (output_unfailed c.in-Err-Output.field-0 c.in-Err-Output.field-0-is)
+    c.in-Err-Output.ensures.quiet_disk (output_unfailed c.args.idle c.in-Err-Output.field-0 c.in-Err-Output.field-0-is)
 
 pub returns-in-Err-Output-clause-drives : goal.returns-in-Err-Output-clause-drives
 returns-in-Err-Output-clause-drives g c = λ back. absurd (over_never statuses.Edge c.give_up-in-Err-Output.result c.give_up-in-Err-Output.ensures.over back)
