@@ -31,11 +31,12 @@ use Rattle.session_serving.proofs.States.{asking_returned}
 
 any_down : (ps : List ComponentState) → nat_lt 0 (length (filter is_down ps)) ≡ true → list_any is_down ps ≡ true
 any_down [] some = some
-any_down (p ∷ ps) some = by (is_down p) some
+any_down (p ∷ ps) some = by (is_down p) (any_down ps) some
   where
-    by : (b : Bool) → nat_lt 0 (length (if b then p ∷ filter is_down ps else filter is_down ps)) ≡ true → (b || list_any is_down ps) ≡ true
-    by true some = refl
-    by false some = any_down ps some
+    by : (b : Bool) → (nat_lt 0 (length (filter is_down ps)) ≡ true → list_any is_down ps ≡ true) →
+        nat_lt 0 (length (if b then p ∷ filter is_down ps else filter is_down ps)) ≡ true → (b || list_any is_down ps) ≡ true
+    by true others some = refl
+    by false others some = others some
 
 first_of : (a b : Bool) → (a && b) ≡ true → a ≡ true
 first_of true b both = refl
@@ -127,7 +128,7 @@ module _ (p : SessionState) (a h g : List TraceEvent) where
   paced_again old mid new now (Some s) first due alone once = inl (record {
     acts = a;
     between = mid;
-    then = now;
+    moment = now;
     first = first;
     due = due;
     change = h;

@@ -104,9 +104,9 @@ pub record StaysAsItIs (x y : Pause) (now : ℕ) (p : SessionState) (h : List Tr
 pub record ComesAgain (x y : Pause) (now : ℕ) (p : SessionState) (h : List TraceEvent) : Type 0 where
   pub acts : List TraceEvent
   pub between : Pause
-  pub then : ℕ
-  pub first : StaysAsItIs x between then p acts
-  pub due : is_due between then ≡ true
+  pub moment : ℕ
+  pub first : StaysAsItIs x between moment p acts
+  pub due : is_due between moment ≡ true
   pub change : List TraceEvent
   pub alone : IsChangeAlone change
   pub more : List TraceEvent
