@@ -7,7 +7,7 @@ use Rattle.nuc_base.specs.declared.status.Status.TheVariants as statuses
 use Rattle.disk_model.specs.Disk.{Image}
 use Rattle.disk_model.specs.declared.disk.Disk as a_disk
 use Rattle.gate_log.specs.declared.journal.Journal as a_journal
-use Rattle.checkpoint_log.specs.Slots.{slots_damaged, slots_entries, slots_files, slots_none, slots_put, slots_stands, slots_turn}
+use Rattle.checkpoint_log.specs.Slots.{slots_damaged, slots_entries, slots_files, slots_none, slots_put, slots_put_room, slots_room, slots_stands, slots_turn}
 use Rattle.checkpoint_log.specs.declared.slots.Slots.{Slots}
 use Rattle.library_core.specs.Library.{Content}
 use Rattle.artifact_store.specs.Swept.{IsSwept, items_of}
@@ -39,6 +39,8 @@ slots_ghosts = record {
   put_there = slots_put;
   end = λ log. log.live.end;
   put_end = λ log. log.put_end;
+  room = slots_room;
+  put_room = slots_put_room;
   number = λ log. log.number;
   turns = slots_turn;
 }

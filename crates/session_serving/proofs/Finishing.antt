@@ -10,6 +10,8 @@ use Rattle.gate_log.specs.declared.journal.Journal as a_journal
 use Rattle.nuc_base.specs.Faults.{Rose}
 use Rattle.nuc_base.specs.declared.kinds.Outcome.{Outcome}
 use Rattle.nuc_base.specs.declared.status.Status.{Status}
+use Rattle.nuc_base.specs.declared.status.Status.TheVariants as statuses
+use Rattle.records.specs.Stored.{Record}
 use Rattle.device.specs.Devices.{Device, Pending}
 use Rattle.device.specs.Lawful.{Run}
 use Rattle.deploy_state.specs.States.{idle_device}
