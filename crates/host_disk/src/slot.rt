@@ -23,8 +23,8 @@ const ACCEPTED: u8 = 0x12;
 
 const ACCEPTED_REVISED: u8 = 0x1d;
 
-/// How many bytes stand ready behind such an entry: at most 1,283 entries follow it up to the close, none of more than 266
-/// bytes, and whole blocks are taken.
+/// How many bytes stand ready behind such an entry: at most 1,283 entries follow it up to the close, each of fewer than 256
+/// bytes. It is a little more than they take, in whole blocks.
 const ROOM: u64 = 344_064;
 
 /// How an open file stands to what the medium keeps.
