@@ -1,6 +1,6 @@
 # Where the documents say that a name stands: a line each of the document, its line, the name and the files of the links behind it.
-# In the tables of TOUR.md the names of functions stand before the links to their files; elsewhere a name is said to be there by
-# "`a`, `b` and `c` in [x](FILE)".
+# In the tables of the way of a command, in ARCHITECTURE.md, the names of functions stand before the links to their files; elsewhere a name
+# is said to be there by "`a`, `b` and `c` in [x](FILE)".
 
 # The path of a link, from the document's folder.
 function path(link,    target) {
@@ -23,12 +23,16 @@ function tell(    at, count, each) {
 FNR == 1 {
     folder = FILENAME
     sub(/[^\/]*$/, "", folder)
+    is_way = 0
+}
+/^## / {
+    is_way = FILENAME ~ /ARCHITECTURE\.md$/ && /^## The way of a command/
 }
 /^    / || !/\]\([^)]*\.(rt|antt)[)#]/ {
     next
 }
 {
-    is_row = FILENAME ~ /TOUR\.md$/ && /^\|/
+    is_row = is_way && /^\|/
     names = ""
     files = ""
     line = $0
