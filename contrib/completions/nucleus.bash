@@ -1,7 +1,7 @@
 # Completion of nucleus(8) for bash: source it, or put it as `nucleus` into bash-completion's folder.
 _nucleus() {
     local word=${COMP_WORDS[COMP_CWORD]} before=${COMP_WORDS[COMP_CWORD - 1]}
-    local commands="init deploy local config-set resume serve status plan why config-get audit workload" command="" at options=""
+    local commands="init deploy local config-set resume serve status plan why config-get audit components about workload" command="" at options=""
     # bash splits a word at `=`.
     if [[ $before == "=" ]]; then
         before=${COMP_WORDS[COMP_CWORD - 2]}

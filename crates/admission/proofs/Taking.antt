@@ -11,7 +11,7 @@ use Rattle.recipe_reader.specs.Members.{members, IsRising}
 use Rattle.recipe_reader.specs.OneRecipe.{IsOneRecipe}
 use Rattle.recipe_reader.specs.Sound.{ReadsSound}
 use Rattle.recipe_reader.specs.declared.candidate.Candidate.{Candidate}
-use Rattle.library_core.specs.Library.{Content}
+use Rattle.library_core.specs.Library.{Artifacts, Content}
 use Rattle.records.specs.Stored.{Draft, DraftItem, Item, Plan, draft_view, plan_view}
 use Rattle.records.specs.declared.record.Draft as code_draft
 use Rattle.records.specs.declared.record.Plan as code_plan
@@ -52,12 +52,12 @@ err_of (Err e) f h = ap Err h
 
 -- ---- the checks look at no count where they pass
 
-passes_any : (d : Device) (o : Origin) (content : Option Content) (b a c e : ℕ) (document : Document) (cs : List Candidate) (draft : Draft)
+passes_any : (d : Device) (o : Origin) (content : Content) (b a c e : ℕ) (document : Document) (cs : List Candidate) (draft : Draft)
     → PassesAll (facts d o content b a document cs draft) plan_checks → PassesAll (facts d o content c e document cs draft) plan_checks
 passes_any d o content b a c e document cs draft h =
-    (h.0, (h.1.0, (record { gathered = h.1.1.0.gathered; kept = h.1.1.0.kept; told = h.1.1.0.told }, (h.1.1.1.0, (h.1.1.1.1.0, tt)))))
+    (h.0, (h.1.0, (record { gathered = h.1.1.0.gathered; kept = h.1.1.0.kept; told = h.1.1.0.told; tells = h.1.1.0.tells }, (h.1.1.1.0, (h.1.1.1.1.0, tt)))))
 
-module _ (d : Device) (o : Origin) (content : Option Content) (before mid after : ℕ) (document : Document) where
+module _ (d : Device) (o : Origin) (content : Content) (before mid after : ℕ) (document : Document) where
   -- a check failed
   pub refused : (a : Refusal) (r : Answer) → IsErrAnd r (λ e. e ≡ Refused a) → DraftOfDocument d o content before after document (Err a) →
       TakesIn d o content before after document r
@@ -66,7 +66,7 @@ module _ (d : Device) (o : Origin) (content : Option Content) (before mid after 
   -- a file was not taken in
   pub unstaged : (draft : code_draft.Draft) (set : List Item) (f : StageFault) (r : Answer) → IsErrAnd r (λ e. e ≡ Unstaged f) → set ≡ d.set
       → DraftOfDocument d o content before mid document (Ok draft)
-      → ((l : Content) → content ≡ Some l → IsOutside f ⊎ IsFirst (draft_lines l set (draft_view draft)) f)
+      → ((l : Artifacts) → content.artifacts ≡ Some l → IsOutside f ⊎ IsFirst (draft_lines l set (draft_view draft)) f)
       → TakesIn d o content before after document r
   unstaged draft set f r h same p said = subst (TakesIn d o content before after document) (sym (err_of r (Unstaged f) h)) (
     p.0,
@@ -110,7 +110,7 @@ some_origin (Some o) h = (o, refl)
 
 module _ (one : IsOneRecipe) (reads_sound : ReadsSound) (allowed : FilledIsAllowed) (gathered : GatheredMayPlan) (d : Device) (document : Document)
     (sound : IsSound d) (regular : IsRegularDevice d) (origin : IsSome d.origin) (idle : d.pending ≡ None) (roots : AreSound document.roots)
-    (content : Option Content) (before after : ℕ) (draft : code_draft.Draft)
+    (content : Content) (before after : ℕ) (draft : code_draft.Draft)
     (proposed : (o : Origin) → d.origin ≡ Some o → DraftOfDocument d o content before after document (Ok draft)) where
   -- by what the draft was made
   record IsMade : Type 0 where
@@ -147,7 +147,7 @@ module _ (one : IsOneRecipe) (reads_sound : ReadsSound) (allowed : FilledIsAllow
 
 module _ (one : IsOneRecipe) (reads_sound : ReadsSound) (allowed : FilledIsAllowed) (gathered : GatheredMayPlan) (d : Device) (document : Document)
     (sound : IsSound d) (regular : IsRegularDevice d) (origin : IsSome d.origin) (idle : d.pending ≡ None) (roots : AreSound document.roots)
-    (content : Option Content) (before after : ℕ) where
+    (content : Content) (before after : ℕ) where
   pub stages_by : (r : Result code_draft.Draft Refusal) → ((o : Origin) → d.origin ≡ Some o → DraftOfDocument d o content before after document r)
       → IfOk r (λ draft. MayStage d.set (draft_view draft).items)
   stages_by (Ok draft) proposed = may_stage_draft one reads_sound allowed gathered d document sound regular origin

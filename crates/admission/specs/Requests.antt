@@ -1,7 +1,7 @@
 -- What asks for a deployment: the bytes of a document, a request of the group of the device itself, or a change of one
 -- component's configuration. Each comes to a document on a device, or to the first reason why it does not; and the document is
 -- then taken in as every one is.
-use Rattle.std.specs.Prelude.{◌≡◌, ◌⊎◌, ℕ, List, Option, Some, None, Result, Ok, Err}
+use Rattle.std.specs.Prelude.{◌≡◌, ◌⊎◌, ℕ, List, Some, None, Result, Ok, Err}
 use Rattle.std.specs.Map.{lookup}
 use Rattle.std.specs.Str.{bytes_eq}
 use Rattle.nuc_base.specs.Tables.{IsFirst}
@@ -120,12 +120,12 @@ IsInside x = (HasDiskFailed (Err x) → ⊥) × (HasLibraryFailed (Err x) → �
 -- ---- what taking it in answers
 
 -- there is none, for this reason, or the document is taken in so
-abbrev pub TakesMade : Device → Origin → Option Content → ℕ → ℕ → Result Document Declined → Result code.Plan Declined → Type 0
+abbrev pub TakesMade : Device → Origin → Content → ℕ → ℕ → Result Document Declined → Result code.Plan Declined → Type 0
 TakesMade d o content before after (Err x) taken = taken ≡ Err x
 TakesMade d o content before after (Ok document) taken = AreSound document.roots × TakesIn d o content before after document taken
 
 -- The bytes come to no document, or there is no memory; or the document to which they come is taken in so.
-abbrev pub TakesBy : (Device → Result Document Declined → Type 0) → Device → Origin → Option Content → ℕ → ℕ → Result code.Plan Declined → Type 0
+abbrev pub TakesBy : (Device → Result Document Declined → Type 0) → Device → Origin → Content → ℕ → ℕ → Result code.Plan Declined → Type 0
 TakesBy request d o content before after taken =
     (taken ≡ Err (Refused refusal.NoMemory))
     ⊎ ((x : Declined) × request d (Err x) × (taken ≡ Err x))

@@ -1,8 +1,8 @@
 -- What taking in a document answers: the checks of its plan in their order, and then those of its files.
-use Rattle.std.specs.Prelude.{◌≡◌, ◌⊎◌, ℕ, List, Option, Some, Result, Ok, Err, ⊤}
+use Rattle.std.specs.Prelude.{◌≡◌, ◌⊎◌, ℕ, List, Some, Result, Ok, Err, ⊤}
 use Rattle.nuc_base.specs.Tables.{AllHold, IsFirst}
 use Rattle.recipe_reader.specs.declared.candidate.Candidate.{Candidate}
-use Rattle.library_core.specs.Library.{Content}
+use Rattle.library_core.specs.Library.{Artifacts, Content}
 use Rattle.library_core.specs.declared.fault.CandidatesFault.TheVariants as gather
 use Rattle.records.specs.Stored.{Item, Draft, Plan, plan_view}
 use Rattle.records.specs.declared.record.Plan as code
@@ -22,14 +22,14 @@ use Rattle.admission.specs.declared.fault.Declined.TheVariants.{Refused, Unstage
 
 -- ---- the files of a draft
 
--- the plan is the draft with a digest for each file, and where the library tells what it holds, with the digests of its files
-pub record IsFilled (content : Option Content) (set : List Item) (draft : Draft) (plan : Plan) : Type 0 where
+-- the plan is the draft with a digest for each file, and where the library tells its artifacts, with their digests
+pub record IsFilled (content : Content) (set : List Item) (draft : Draft) (plan : Plan) : Type 0 where
   pub fills : PlanFilled draft plan
-  pub told : (l : Content) → content ≡ Some l → AllHold (draft_lines l set draft) × Filled l draft plan
+  pub told : (l : Artifacts) → content.artifacts ≡ Some l → AllHold (draft_lines l set draft) × Filled l draft plan
 
--- a fault from outside, or where the library tells what it holds the first that its files give cause for
-abbrev pub IsUnfilled : Option Content → List Item → Draft → StageFault → Type 0
-IsUnfilled content set draft f = (l : Content) → content ≡ Some l → IsOutside f ⊎ IsFirst (draft_lines l set draft) f
+-- a fault from outside, or where the library tells its artifacts the first that they give cause for
+abbrev pub IsUnfilled : Content → List Item → Draft → StageFault → Type 0
+IsUnfilled content set draft f = (l : Artifacts) → content.artifacts ≡ Some l → IsOutside f ⊎ IsFirst (draft_lines l set draft) f
 
 -- ---- the answer
 
@@ -41,7 +41,7 @@ AdmissionOutcome f (Err (Unstaged a)) = PassesAll f plan_checks × IsUnfilled f.
 AdmissionOutcome f (Err (Unasked u)) = ⊥
 
 -- by some candidates and a draft
-abbrev pub TakesIn : Device → Origin → Option Content → ℕ → ℕ → Document → Result code.Plan Declined → Type 0
+abbrev pub TakesIn : Device → Origin → Content → ℕ → ℕ → Document → Result code.Plan Declined → Type 0
 TakesIn d o content before after document result = (cs : List Candidate) × (draft : Draft)
     × AdmissionOutcome (facts d o content before after document cs draft) result
 

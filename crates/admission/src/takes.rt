@@ -11,6 +11,7 @@ ghost use Rattle.device.specs.Devices.{device_view, IsRegularDevice};
 ghost use Rattle.device.specs.Lawful.{Allowed};
 ghost use Rattle.device.specs.Regularity.{IsRegularRecord};
 ghost use Rattle.device.specs.Sound.{IsSound};
+ghost use Rattle.library_core.specs.Library.{StaysTold};
 ghost use Rattle.library_core.specs.declared.fault.CandidatesFault.TheVariants.{Library as LibraryFailed};
 ghost use Rattle.plan_core.specs.Checks.{DraftOfDocument};
 ghost use Rattle.deployment_doc.specs.Sound.{AreSound};
@@ -45,11 +46,11 @@ fn draft_for<L: Library>(
     requires sound { IsSound (device_view device.now) }
     requires regular { IsRegularDevice (device_view device.now) }
     requires roots { AreSound document.now.roots }
-    ensures proposes { (o : Origin) → device.now.origin ≡ Some o → DraftOfDocument (device_view device.now) o (L.content library.old) (L.faults library.old)
+    ensures proposes { (o : Origin) → device.now.origin ≡ Some o → DraftOfDocument (device_view device.now) o (L.content library.new) (L.faults library.old)
         (L.faults library.new) document.now result }
     ensures stages { IfOk result (λ draft. MayStage (device_view device.now).set (draft_view draft).items) }
     ensures takes { IfOk result (λ draft. MayTakeFilled (device_view device.now) (draft_view draft)) }
-    ensures kept { L.content library.new ≡ L.content library.old }
+    ensures kept { StaysTold L.content L.coming library.old library.new }
     ensures cause { IsErrOf result (Refusal.Candidates LibraryFailed) → Rose (L.faults library.old) (L.faults library.new) }
     ensures quiet { ¬ (IsErrOf result (Refusal.Candidates LibraryFailed)) → L.faults library.new ≡ L.faults library.old }
     ensures later { L.faults library.old ≤ L.faults library.new }
@@ -75,7 +76,7 @@ pub fn take_in<D: Disk, J: Journal + Drop, L: Library>(
     // The journal does not lie among the files of artifacts.
     requires apart { LieElsewhere J.files }
     requires roots { AreSound document.now.roots }
-    ensures takes { (o : Origin) → (idle_device idle.now).origin ≡ Some o → TakesIn (idle_device idle.now) o (L.content library.old) (L.faults library.old)
+    ensures takes { (o : Origin) → (idle_device idle.now).origin ≡ Some o → TakesIn (idle_device idle.now) o (L.content library.new) (L.faults library.old)
         (L.faults library.new) document.now result }
     // The plan may be accepted.
     ensures lawful { IfOk result (λ plan. Allowed (idle_device idle.now) (stored.Accepted (plan_view plan))) }
@@ -91,7 +92,7 @@ pub fn take_in<D: Disk, J: Journal + Drop, L: Library>(
         (λ c. HoldsDevice c (idle_device idle.now)) }
     ensures files { IfOk result (λ plan. AllHoldDevice (D.may_leave disk.old) (idle_device idle.now) →
         AllHoldItems (D.may_leave disk.new) (map item_view plan.items)) }
-    ensures kept { L.content library.new ≡ L.content library.old }
+    ensures kept { StaysTold L.content L.coming library.old library.new }
     ensures disk_cause { HasDiskFailed result → Rose (D.faults disk.old) (D.faults disk.new) }
     ensures disk_quiet { ¬ (HasDiskFailed result) → D.faults disk.new ≡ D.faults disk.old }
     ensures disk_later { D.faults disk.old ≤ D.faults disk.new }

@@ -16,7 +16,7 @@ use Rattle.sha2.specs.Sha256.{sha256}
 use Rattle.disk_model.specs.Disk.{Image, IsAfter, HasLeft, DiskLaws}
 use Rattle.disk_model.specs.Moments.{now, at_start, weaker, then_spares, none_spares, spares_more}
 use Rattle.disk_model.specs.Spares.{IsSameBut, IsFile}
-use Rattle.library_core.specs.Library.{Content}
+use Rattle.library_core.specs.Library.{Artifacts, Content}
 use Rattle.records.specs.Stored.{Item, DraftItem}
 use Rattle.records.specs.declared.record.Held.{Held}
 use Rattle.device.specs.Plans.{IsHeldFor}
@@ -105,7 +105,7 @@ held_fors (a ∷ ones) (h ∷ helds) given = (held_for a h given.0, held_fors on
 some_none : (digest : List ℕ) (o : Option (List ℕ)) → o ≡ Some digest → o ≡ None → ⊥
 some_none digest o some none = absurd (let both : ◌≡◌ {A = Option (List ℕ)} (Some digest) None = sym some ∙ none in cc both)
 
-pub fills_given : (l : Content) (i : DraftItem) (ones : List Artifact) (helds : List Held) → AllZip IsAsGiven ones helds → AllZip (FillsFile l i) ones helds
+pub fills_given : (l : Artifacts) (i : DraftItem) (ones : List Artifact) (helds : List Held) → AllZip IsAsGiven ones helds → AllZip (FillsFile l i) ones helds
 fills_given l i [] [] given = tt
 fills_given l i [] (h ∷ helds) given = absurd given
 fills_given l i (a ∷ ones) [] given = absurd given
@@ -113,10 +113,10 @@ fills_given l i (a ∷ ones) (h ∷ helds) given = ((λ none. absurd (some_none 
 
 -- no lines of an item that is kept
 
-none_hold : (l : Content) (kept : List Item) (i : DraftItem) → is_kept kept i ≡ true → AllHold (item_lines l kept i)
+none_hold : (l : Artifacts) (kept : List Item) (i : DraftItem) → is_kept kept i ≡ true → AllHold (item_lines l kept i)
 none_hold l kept i h = rw h tt
 
-pub kept_stages : {A : Type 0} (l : Content) (kept : List Item) (i : DraftItem) (Is : A → Type 0) (value : A) → is_kept kept i ≡ true → Is value →
+pub kept_stages : {A : Type 0} (l : Artifacts) (kept : List Item) (i : DraftItem) (Is : A → Type 0) (value : A) → is_kept kept i ≡ true → Is value →
     StagesBy (item_lines l kept i) Is (Ok value)
 kept_stages l kept i Is value h is = (none_hold l kept i h, is)
 
@@ -176,9 +176,9 @@ others_more fewer files old mid new wider first second name spared = second name
 pub held_file : (a : Artifact) (h : Held) (digest : List ℕ) → (h.file ≡ a.file) × (h.digest ≡ digest) → IfSome a.digest (λ d. digest ≡ d) → IsHeldFor a h
 held_file a h digest held given = record { file = held.0; digest = subst (λ (x : List ℕ). IfSome a.digest (λ d. x ≡ d)) (sym held.1) given }
 
-pub fills_file : (l : Content) (i : DraftItem) (a : Artifact) (h : Held) (digest : List ℕ) → h.digest ≡ digest →
-    IsDigestOf (l.artifact i.name i.version a.file) digest → FillsFile l i a h
-fills_file l i a h digest same is none = subst (λ (x : List ℕ). IsDigestOf (l.artifact i.name i.version a.file) x) (sym same) is
+pub fills_file : (l : Artifacts) (i : DraftItem) (a : Artifact) (h : Held) (digest : List ℕ) → h.digest ≡ digest →
+    IsDigestOf (l i.name i.version a.file) digest → FillsFile l i a h
+fills_file l i a h digest same is none = subst (λ (x : List ℕ). IsDigestOf (l i.name i.version a.file) x) (sym same) is
 
 -- the kept files of an item that the set has
 pub kept_helds : (kept : List Item) (i : DraftItem) (helds : List Held) (image : Image) → HoldsItems image kept → KeepsFiles kept i → IsKeptBy kept i →
@@ -201,3 +201,8 @@ none_left (x ∷ xs) none = absurd (omega (arith, none))
 
 pub named_as : (i : DraftItem) (made : Item) → ItemFilled i made → IsNamedDraft i → IsNamed made
 named_as i made fills named = (subst IsName (sym fills.name) named.0, subst IsVersion (sym fills.version) named.1)
+
+-- ---- a library that tells the same
+
+pub same_artifacts : {a b : Content} {l : Artifacts} → a ≡ b → b.artifacts ≡ Some l → a.artifacts ≡ Some l
+same_artifacts same told = ap (λ (x : Content). x.artifacts) same ∙ told

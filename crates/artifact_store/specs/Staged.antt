@@ -10,7 +10,7 @@ use Rattle.nuc_base.specs.Faults.{Rose}
 use Rattle.nuc_base.specs.Tables.{Table, IsFirst, AllHold, each}
 use Rattle.nuc_base.specs.declared.artifact.Artifact.{Artifact}
 use Rattle.tree_core.specs.Parts.{check}
-use Rattle.library_core.specs.Library.{Content}
+use Rattle.library_core.specs.Library.{Artifacts}
 use Rattle.recipe_reader.specs.Sound.{artifact_file}
 use Rattle.records.specs.Stored.{Item, DraftItem, Draft}
 use Rattle.records.specs.declared.record.Held.{Held}
@@ -77,18 +77,18 @@ found_lines file given (Some bytes) =
     check (length bytes ≤ most_bytes) (fault.TooLarge file most_bytes)
     ++ check (IfSome given (λ d. d ≡ sha256 bytes)) (fault.Mismatch file (sha256 bytes))
 
-abbrev pub artifact_lines : Content → DraftItem → Artifact → Table StageFault
-artifact_lines l i a = found_lines (path i.name i.version a.file) a.digest (l.artifact i.name i.version a.file)
+abbrev pub artifact_lines : Artifacts → DraftItem → Artifact → Table StageFault
+artifact_lines l i a = found_lines (path i.name i.version a.file) a.digest (l i.name i.version a.file)
 
 abbrev pub unless : Bool → Table StageFault → Table StageFault
 unless true lines = []
 unless false lines = lines
 
 -- of the artifacts of an item in their order, unless it is kept
-abbrev pub item_lines : Content → List Item → DraftItem → Table StageFault
+abbrev pub item_lines : Artifacts → List Item → DraftItem → Table StageFault
 item_lines l kept i = unless (is_kept kept i) (each (artifact_lines l i) i.artifacts)
 
-abbrev pub draft_lines : Content → List Item → Draft → Table StageFault
+abbrev pub draft_lines : Artifacts → List Item → Draft → Table StageFault
 draft_lines l kept draft = each (item_lines l kept) draft.items
 
 -- ---- answers

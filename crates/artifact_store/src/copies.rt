@@ -3,7 +3,7 @@ ghost use Rattle.std.specs.Prelude.{◌≡◌, ℕ, ◌≤◌, [], IsTrue, lengt
 ghost use Rattle.sha2.specs.Sha256.{sha256};
 ghost use Rattle.disk_model.specs.Disk.{Image, IsAfter, HasLeft};
 ghost use Rattle.disk_model.specs.Spares.{IsSameBut, IsFile};
-ghost use Rattle.library_core.specs.Library.{Content};
+ghost use Rattle.library_core.specs.Library.{Artifacts, StandsStill};
 ghost use Rattle.records.specs.Stored.{draft_item_view};
 ghost use Rattle.artifact_store.specs.Filled.{IsDigestOf};
 ghost use Rattle.artifact_store.specs.Paths.{path};
@@ -32,9 +32,9 @@ fn check_size<L: Library>(
     artifact: &Artifact,
     target: &FileName,
 ) -> Result<(), StageFault>
-    ensures sized { (l : Content) → L.content library.old ≡ Some l →
-        StagesBy (found_lines target.now None (l.artifact item.now.name item.now.version artifact.now.file)) (λ _. ⊤) result }
-    ensures kept { L.content library.new ≡ L.content library.old }
+    ensures sized { (l : Artifacts) → (L.content library.old).artifacts ≡ Some l →
+        StagesBy (found_lines target.now None (l item.now.name item.now.version artifact.now.file)) (λ _. ⊤) result }
+    ensures kept { StandsStill L.content L.coming library.old library.new }
     ensures counts { (n : ℕ) → HasCounted n n (L.faults library.old) (L.faults library.new) result }
 {
     let mut next = [0u8];
@@ -60,10 +60,10 @@ fn copy_in<D: Disk, L: Library>(
     ensures moments { HasLeft D.moment D.left_since disk.old disk.new (IsAfter (D.may_leave disk.old) (IsSameBut (IsFile target.now))) }
     ensures others { IsTrue D.is_modelled → IsSameBut (IsFile target.now) (D.seen disk.old) (D.seen disk.new) }
     ensures written { IsTrue D.is_modelled → IfOk result (λ digest. digest ≡ sha256 (D.seen disk.new target.now)) }
-    ensures copied { (l : Content) → L.content library.old ≡ Some l →
-        StagesBy (found_lines target.now None (l.artifact item.now.name item.now.version artifact.now.file))
-        (IsDigestOf (l.artifact item.now.name item.now.version artifact.now.file)) result }
-    ensures kept { L.content library.new ≡ L.content library.old }
+    ensures copied { (l : Artifacts) → (L.content library.old).artifacts ≡ Some l →
+        StagesBy (found_lines target.now None (l item.now.name item.now.version artifact.now.file))
+        (IsDigestOf (l item.now.name item.now.version artifact.now.file)) result }
+    ensures kept { StandsStill L.content L.coming library.old library.new }
     ensures counts { HasCounted (D.faults disk.old) (D.faults disk.new) (L.faults library.old) (L.faults library.new) result }
 {
     let mut hasher = Sha256::new();
@@ -103,10 +103,10 @@ pub(crate) fn stage_file<D: Disk, L: Library>(
     // Then a crash leaves bytes of that digest.
     ensures held { IfOk result (λ digest. (c : Image) → D.may_leave disk.new c → sha256 (c (path item.now.name item.now.version artifact.now.file)) ≡ digest) }
     ensures given { IfOk result (λ digest. IfSome artifact.now.digest (λ d. digest ≡ d)) }
-    ensures staged { (l : Content) → L.content library.old ≡ Some l →
+    ensures staged { (l : Artifacts) → (L.content library.old).artifacts ≡ Some l →
         StagesBy (artifact_lines l (draft_item_view item.now) artifact.now)
-        (IsDigestOf (l.artifact item.now.name item.now.version artifact.now.file)) result }
-    ensures kept { L.content library.new ≡ L.content library.old }
+        (IsDigestOf (l item.now.name item.now.version artifact.now.file)) result }
+    ensures kept { StandsStill L.content L.coming library.old library.new }
     ensures counts { HasCounted (D.faults disk.old) (D.faults disk.new) (L.faults library.old) (L.faults library.new) result }
 {
     let target = file_name(alloc, &item.name, &item.version, &artifact.file)?;

@@ -3,7 +3,7 @@ ghost use Rattle.std.specs.Prelude.{◌≡◌, ℕ, ◌≤◌, List, IsTrue, len
 ghost use Rattle.std.specs.List.{AllByRecursion, AllZip};
 ghost use Rattle.disk_model.specs.Disk.{Image, IsAfter, HasLeft};
 ghost use Rattle.disk_model.specs.Spares.{IsSameBut};
-ghost use Rattle.library_core.specs.Library.{Content};
+ghost use Rattle.library_core.specs.Library.{Artifacts, StandsStill};
 ghost use Rattle.nuc_base.specs.Tables.{each};
 ghost use Rattle.records.specs.Stored.{item_view, draft_item_view, draft_view, plan_view};
 ghost use Rattle.device.specs.Devices as stored;
@@ -57,10 +57,10 @@ fn stage_files<D: Disk, L: Library>(
     ensures others { IsTrue D.is_modelled → IsSameBut (IsFileOfDraft (draft_item_view item.now)) (D.seen disk.old) (D.seen disk.new) }
     ensures held { IfOk result (λ helds. (c : Image) → D.may_leave disk.new c → HoldsFiles c item.now.name item.now.version helds) }
     ensures given { IfOk result (λ helds. AllZip IsHeldFor item.now.artifacts helds) }
-    ensures staged { (l : Content) → L.content library.old ≡ Some l →
+    ensures staged { (l : Artifacts) → (L.content library.old).artifacts ≡ Some l →
         StagesBy (each (artifact_lines l (draft_item_view item.now)) item.now.artifacts)
         (λ helds. AllZip (FillsFile l (draft_item_view item.now)) item.now.artifacts helds) result }
-    ensures kept { L.content library.new ≡ L.content library.old }
+    ensures kept { StandsStill L.content L.coming library.old library.new }
     ensures counts { HasCounted (D.faults disk.old) (D.faults disk.new) (L.faults library.old) (L.faults library.new) result }
 {
     let mut helds = Vec::new(alloc);
@@ -100,10 +100,10 @@ fn item_files<D: Disk, L: Library>(
     ensures held { IfOk result (λ helds. AllHoldItems (D.may_leave disk.old) (map item_view kept.now) → (c : Image) → D.may_leave disk.new c →
         HoldsFiles c item.now.name item.now.version helds) }
     ensures given { IfOk result (λ helds. AllZip IsHeldFor item.now.artifacts helds) }
-    ensures staged { (l : Content) → L.content library.old ≡ Some l →
+    ensures staged { (l : Artifacts) → (L.content library.old).artifacts ≡ Some l →
         StagesBy (item_lines l (map item_view kept.now) (draft_item_view item.now))
         (λ helds. AllZip (FillsFile l (draft_item_view item.now)) item.now.artifacts helds) result }
-    ensures kept { L.content library.new ≡ L.content library.old }
+    ensures kept { StandsStill L.content L.coming library.old library.new }
     ensures counts { HasCounted (D.faults disk.old) (D.faults disk.new) (L.faults library.old) (L.faults library.new) result }
 {
     if is_kept(kept, item) {
@@ -129,9 +129,9 @@ fn stage_item<D: Disk, L: Library>(
     ensures held { IfOk result (λ made. AllHoldItems (D.may_leave disk.old) (map item_view kept.now) → (c : Image) → D.may_leave disk.new c →
         HoldsItem c (item_view made)) }
     ensures fills { IfOk result (λ made. ItemFilled (draft_item_view item) (item_view made)) }
-    ensures staged { (l : Content) → L.content library.old ≡ Some l →
+    ensures staged { (l : Artifacts) → (L.content library.old).artifacts ≡ Some l →
         StagesBy (item_lines l (map item_view kept.now) (draft_item_view item)) (λ made. FillsFiles l (draft_item_view item) (item_view made)) result }
-    ensures kept { L.content library.new ≡ L.content library.old }
+    ensures kept { StandsStill L.content L.coming library.old library.new }
     ensures counts { HasCounted (D.faults disk.old) (D.faults disk.new) (L.faults library.old) (L.faults library.new) result }
 {
     let artifacts = item_files(alloc, disk, library, kept, &item)?;
@@ -181,9 +181,9 @@ pub fn stage<D: Disk, L: Library>(
     ensures held { IfOk result (λ plan. AllHoldItems (D.may_leave disk.old) (map item_view kept.now) →
         AllHoldItems (D.may_leave disk.new) (map item_view plan.items)) }
     ensures fills { IfOk result (λ plan. PlanFilled (draft_view draft) (plan_view plan)) }
-    ensures staged { (l : Content) → L.content library.old ≡ Some l →
+    ensures staged { (l : Artifacts) → (L.content library.old).artifacts ≡ Some l →
         StagesBy (draft_lines l (map item_view kept.now) (draft_view draft)) (λ plan. Filled l (draft_view draft) (plan_view plan)) result }
-    ensures kept { L.content library.new ≡ L.content library.old }
+    ensures kept { StandsStill L.content L.coming library.old library.new }
     ensures counts { HasCounted (D.faults disk.old) (D.faults disk.new) (L.faults library.old) (L.faults library.new) result }
 {
     let Draft {
@@ -227,10 +227,10 @@ fn stage_items<D: Disk, L: Library>(
     ensures held { IfOk result (λ items. AllHoldItems (D.may_leave disk.old) (map item_view kept.now) →
         AllHoldItems (D.may_leave disk.new) (map item_view items)) }
     ensures fills { IfOk result (λ items. AllZip ItemFilled (map draft_item_view drafts) (map item_view items)) }
-    ensures staged { (l : Content) → L.content library.old ≡ Some l →
+    ensures staged { (l : Artifacts) → (L.content library.old).artifacts ≡ Some l →
         StagesBy (each (item_lines l (map item_view kept.now)) (map draft_item_view drafts))
         (λ items. AllZip (FillsFiles l) (map draft_item_view drafts) (map item_view items)) result }
-    ensures kept { L.content library.new ≡ L.content library.old }
+    ensures kept { StandsStill L.content L.coming library.old library.new }
     ensures counts { HasCounted (D.faults disk.old) (D.faults disk.new) (L.faults library.old) (L.faults library.new) result }
 {
     let mut items = Vec::new(alloc);

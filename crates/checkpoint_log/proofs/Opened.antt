@@ -4,7 +4,7 @@ use Rattle.std.proofs.Common.{subst, arith, append_assoc, length-append}
 use Rattle.std.proofs.lemmas.Bool.{cases_eq}
 use Rattle.std.proofs.lemmas.List.{append-nil, map_push}
 use Rattle.std.specs.Int.{w32, to_be_bytes}
-use Rattle.disk_model.specs.Disk.{IsPutAt, Torn}
+use Rattle.disk_model.specs.Disk.{IsPutAt, Lengthened, Torn}
 use Rattle.gate_log.specs.Entries.{most_payload, entry, joined, AllGood, ClosedAt, HoldsNone}
 use Rattle.gate_log.specs.Laws.{entry_same, length-entry}
 use Rattle.gate_log.proofs.Gates.{joined_push, good_push}
@@ -93,6 +93,21 @@ put_none file more is = record {
   payloads_are = refl;
   end_is = refl;
   there = record { behind = more; rest = 1 ∷ more; file_is = is; opened = refl };
+}
+
+-- what was put stays in a file that goes on
+pub put_stays : (to : ℕ) (a b : List ℕ) (end : ℕ) (payloads : List (List ℕ)) → Lengthened to a b → IsPutWith [] a end payloads → IsPutWith [] b end payloads
+put_stays to a b end payloads longer put = record {
+  entries = put.entries;
+  good = put.good;
+  payloads_are = put.payloads_are;
+  end_is = put.end_is;
+  there = record {
+    behind = put.there.behind ++ longer.more;
+    rest = put.there.rest ++ longer.more;
+    file_is = longer.is ∙ ap (λ (l : List ℕ). l ++ longer.more) put.there.file_is;
+    opened = ap (λ (l : List ℕ). l ++ longer.more) put.there.opened ∙ append_assoc (joined put.entries ++ []) put.there.rest longer.more;
+  };
 }
 
 -- what was put is one list

@@ -424,6 +424,41 @@ module _ {D : Type 0} {is_modelled : Bool} {seen : D → Image} {may_leave : D �
         };
   }
 
+  -- room behind the closed gate of the live slot
+  pub reserve_moments : (log : Slots) (old new : D) (payloads : List (List ℕ)) (file : List ℕ) → file ≡ slot log.number →
+      IsBehind may_leave slots_stands log old payloads
+      → HasLeft moment left_since old new (IsAfter (may_leave old) (IsChangeIn (files_of file) (λ c. entries_in file c payloads)))
+      → HasLeft moment left_since old new (IsAfter (may_leave old) (IsChangeIn slots_files (λ c. slots_entries c payloads)))
+  reserve_moments log old new payloads file is behind leaves = weaker laws old new _ _
+      (λ c was.
+      let h = behind.each was.0 was.1 in
+      let stay = beside_stays log file is was.0 c was.2.others in (
+        was.0,
+        was.1,
+        record {
+          here = live_entries log was.0 c payloads payloads h stay.1 (subst (λ (name : List ℕ). HasEntries (c name) payloads) is was.2.here) h.says;
+          others = stay.0;
+        },
+      ))
+      leaves
+
+  pub reserve_stands : (log : Slots) (old new : D) (payloads : List (List ℕ)) (file : List ℕ) → file ≡ slot log.number →
+      IsBehind may_leave slots_stands log old payloads
+      → HasLeft moment left_since old new (IsAfter (may_leave old) (IsChangeIn (files_of file) (λ c. entries_in file c payloads)))
+      → IsBehind may_leave (stands_in file) log.live new payloads → IsBehind may_leave slots_stands log new payloads
+  reserve_stands log old new payloads file is behind leaves stays = record {
+    each = λ c left.
+        let was = now laws old new _ leaves c left in
+        let h = behind.each was.0 was.1 in
+        let stay = beside_stays log file is was.0 c was.2.others in
+        record {
+          closed = subst (λ (name : List ℕ). ClosedAt (c name) log.live.end payloads) is (stays.each c left);
+          says = h.says;
+          older = subst (λ (l : List ℕ). IsOlder (slot (log.number + 1)) l log.number) (sym stay.1) h.older;
+          begun = λ yes. (let start = h.begun yes in (start.0, stay.1 ∙ start.1));
+        };
+  }
+
 -- a store just made
 pub made_stands : {D : Type 0} {is_modelled : Bool} {seen : D → Image} {may_leave : D → Image → Type 0} {moment : D → ℕ} {left_since : D → ℕ → Image → Type 0}
     → DiskLaws is_modelled seen may_leave moment left_since → (log : Slots) (old new : D) → log.number ≡ 0 → ¬ (IsTrue log.begun) →

@@ -1,7 +1,7 @@
 // Two slots as a journal.
 use crate::look::{live_number, settle};
 use crate::names::slot_name;
-use crate::turn::{close_behind, put_behind, shut_start};
+use crate::turn::{close_behind, put_behind, reserve_behind, shut_start};
 use disk_model::{Disk, DiskFault};
 use gate_log::{AppendFault, EntryFault, FindFault, JOURNAL, Journal, Log, open_gate};
 use nuc_base::Bytes;
@@ -18,7 +18,7 @@ pub struct Slots {
 }
 
 impl Journal for Slots {
-    ghost use Rattle.checkpoint_log.specs.Slots.{slots_files, slots_entries, slots_none, slots_damaged, slots_stands, slots_put, slots_turn};
+    ghost use Rattle.checkpoint_log.specs.Slots.{slots_files, slots_entries, slots_none, slots_damaged, slots_stands, slots_put, slots_put_room, slots_room, slots_turn};
     ghost use Rattle.checkpoint_log.specs.Laws.{slots_laws};
 
     ghost files = { slots_files };
@@ -36,6 +36,10 @@ impl Journal for Slots {
     ghost end = { λ log. log.live.end };
 
     ghost put_end = { λ log. log.put_end };
+
+    ghost room = { slots_room };
+
+    ghost put_room = { slots_put_room };
 
     ghost number = { λ log. log.number };
 
@@ -71,6 +75,10 @@ impl Journal for Slots {
         self.live.append_in(disk, slot_name(self.number), payload)
     }
 
+    fn reserve<D: Disk>(&self, disk: &mut D, to: u64) -> Result<(), DiskFault> {
+        self.live.reserve_in(disk, slot_name(self.number), to)
+    }
+
     fn entry<D: Disk>(
         &self,
         alloc: Global,
@@ -100,6 +108,13 @@ impl Journal for Slots {
         self.put_end = 0;
         self.begun = true;
         Ok(())
+    }
+
+    fn reserve_turn<D: Disk>(&self, disk: &mut D, to: u64) -> Result<(), DiskFault> {
+        if self.number >= u64::MAX {
+            return Ok(());
+        }
+        reserve_behind(disk, slot_name(self.number + 1), to)
     }
 
     fn put<D: Disk>(&mut self, disk: &mut D, payload: &[u8]) -> Result<(), DiskFault> {

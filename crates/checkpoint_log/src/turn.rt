@@ -34,6 +34,7 @@ fn gate_behind<D: Disk>(disk: &mut D, file: &str, end: u64) -> Result<(), DiskFa
     ensures written { IsTrue D.is_modelled → (payloads : List (List ℕ)) → IsPutWith [] (D.seen disk.old file.now) end payloads →
         OnOk result (IsPutWith (1 ∷ []) (D.seen disk.new file.now) end payloads) }
     ensures moments { HasLeft D.moment D.left_since disk.old disk.new (IsAfter (D.may_leave disk.old) (Step file.now KeepsStart)) }
+    ensures longer { IsTrue D.is_modelled → OnOk result (length (D.seen disk.old file.now) ≤ length (D.seen disk.new file.now)) }
     ensures others { IsTrue D.is_modelled → (name : List ℕ) → name ≢ file.now → D.seen disk.new name ≡ D.seen disk.old name }
     ensures cause { HasCause (D.faults disk.old) (D.faults disk.new) result }
     ensures quiet { OnOk result (D.faults disk.new ≡ D.faults disk.old) }
@@ -42,6 +43,21 @@ fn gate_behind<D: Disk>(disk: &mut D, file: &str, end: u64) -> Result<(), DiskFa
         return Ok(());
     }
     disk.write_at(file, end, &[1])
+}
+
+/// Sees to it that the file goes on up to this place. The closed gate at its beginning is stable, so that what stands behind
+/// it can't be opened. What was put stays, also where it fails.
+pub fn reserve_behind<D: Disk>(disk: &mut D, file: &str, to: u64) -> Result<(), DiskFault>
+    requires shut { IsTrue D.is_modelled → (more : List ℕ) × (D.seen disk.old file.now ≡ 0 ∷ more) }
+    ensures stays { IsTrue D.is_modelled → (end : ℕ) → (payloads : List (List ℕ)) → IsPutWith [] (D.seen disk.old file.now) end payloads →
+        IsPutWith [] (D.seen disk.new file.now) end payloads }
+    ensures moments { HasLeft D.moment D.left_since disk.old disk.new (IsAfter (D.may_leave disk.old) (Step file.now KeepsStart)) }
+    ensures room { IsTrue D.is_modelled → OnOk result (to ≤ length (D.seen disk.new file.now)) }
+    ensures others { IsTrue D.is_modelled → (name : List ℕ) → name ≢ file.now → D.seen disk.new name ≡ D.seen disk.old name }
+    ensures cause { HasCause (D.faults disk.old) (D.faults disk.new) result }
+    ensures quiet { OnOk result (D.faults disk.new ≡ D.faults disk.old) }
+{
+    disk.reserve(file, to)
 }
 
 /// Puts an entry behind those that were put, the first of them behind the closed gate at the beginning.
@@ -58,6 +74,7 @@ pub fn put_behind<D: Disk>(
     ensures written { IsTrue D.is_modelled → (payloads : List (List ℕ)) → IsPutWith [] (D.seen disk.old file.now) end payloads →
         OnOk result (IsPutWith [] (D.seen disk.new file.now) (end + 5 + length payload.now) (payloads ++ payload.now ∷ [])) }
     ensures moments { HasLeft D.moment D.left_since disk.old disk.new (IsAfter (D.may_leave disk.old) (Step file.now KeepsStart)) }
+    ensures longer { IsTrue D.is_modelled → OnOk result (length (D.seen disk.old file.now) ≤ length (D.seen disk.new file.now)) }
     ensures others { IsTrue D.is_modelled → (name : List ℕ) → name ≢ file.now → D.seen disk.new name ≡ D.seen disk.old name }
     ensures cause { HasCause (D.faults disk.old) (D.faults disk.new) result }
     ensures quiet { OnOk result (D.faults disk.new ≡ D.faults disk.old) }
@@ -76,6 +93,7 @@ pub fn close_behind<D: Disk>(disk: &mut D, file: &str, end: u64) -> Result<(), D
         OnOk result (IsPutWith (0 ∷ []) (D.seen disk.new file.now) end payloads) }
     ensures durable { OnOk result (Settled (D.may_leave disk.new) file.now (D.seen disk.new file.now)) }
     ensures moments { HasLeft D.moment D.left_since disk.old disk.new (IsAfter (D.may_leave disk.old) (Step file.now KeepsStart)) }
+    ensures longer { IsTrue D.is_modelled → OnOk result (length (D.seen disk.old file.now) ≤ length (D.seen disk.new file.now)) }
     ensures others { IsTrue D.is_modelled → (name : List ℕ) → name ≢ file.now → D.seen disk.new name ≡ D.seen disk.old name }
     ensures cause { HasCause (D.faults disk.old) (D.faults disk.new) result }
     ensures quiet { OnOk result (D.faults disk.new ≡ D.faults disk.old) }

@@ -15,5 +15,6 @@ pub mod Numbers
 pub mod Platforms
 pub mod Tables
 pub mod Whole
+pub mod Shown
 pub mod Times
 pub mod Scoped

@@ -3,7 +3,7 @@ use Rattle.std.specs.Prelude.{◌≡◌, ℕ, ◌≤◌, nat_lt, Bool, true, fal
 use Rattle.std.specs.Prelude.{option_map}
 use Rattle.std.specs.List.{find, list_any}
 use Rattle.nuc_base.specs.declared.kinds.Step.{Step}
-use Rattle.components.specs.Components.{Components, ComponentState, Child, At, component_name, owner, is_broken, is_over}
+use Rattle.components.specs.Components.{Components, ComponentState, Child, At, component_name, owner, is_broken, is_down, is_over}
 use Rattle.components.specs.Turns.{is_begun}
 use Rattle.components.specs.Numbers.{is_above}
 use Rattle.components.specs.declared.kinds.Event.{Event}
@@ -34,6 +34,10 @@ has_answered w = not (list_any (λ p. p.handed) w.parts)
 -- the least name that is broken
 abbrev pub broken_name : Components → Option (List ℕ)
 broken_name w = option_map component_name (find (λ p. is_broken p.life.state && not p.life.gone) w.parts)
+
+-- how many are broken, and not to be stopped
+abbrev pub broken_count : Components → ℕ
+broken_count w = length (filter is_down w.parts)
 
 abbrev pub child_numbers : List Child → List ℕ
 child_numbers cs = map (λ (c : Child). c.number) cs

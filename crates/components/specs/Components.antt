@@ -130,9 +130,13 @@ stands_up p = is_up p.life.state && not (is_to_stop p || p.life.gone)
 abbrev pub is_settled : Components → Bool
 is_settled w = not (list_any (λ p. not (is_over p || stands_up p)) w.parts)
 
--- one of those that stand is broken
+-- broken, and not to be stopped
+abbrev pub is_down : ComponentState → Bool
+is_down p = is_broken p.life.state && not (is_to_stop p || p.life.gone)
+
+-- one is so
 abbrev pub has_broken : Components → Bool
-has_broken w = list_any (λ p. is_broken p.life.state && not p.life.gone) w.parts
+has_broken w = list_any is_down w.parts
 
 -- none stands
 abbrev pub is_stopped : Components → Bool

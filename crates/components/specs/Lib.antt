@@ -17,3 +17,4 @@ pub mod Rows
 pub mod Runs
 pub mod Turns
 pub mod Components
+pub mod Views

@@ -7,12 +7,14 @@ ghost use Rattle.records.specs.Stored.{item_view};
 ghost use Rattle.device.specs.Plans.{AreRising, item_name, AreRegularItems, NeedsByName, HasSomeRecipe};
 ghost use Rattle.components.specs.Made.{AreFitted};
 ghost use Rattle.components.specs.Acts.{NextAct};
-ghost use Rattle.components.specs.Answers.{IsExpected, has_answered, is_steady, broken_name, IsLivingAt, IsNextLiving, standing_count};
+ghost use Rattle.components.specs.Answers.{IsExpected, has_answered, is_steady, broken_count, broken_name, IsLivingAt, IsNextLiving, standing_count};
 ghost use Rattle.components.specs.Changes.{changed_to, all_stopped, standing, steadied};
 ghost use Rattle.components.specs.Deadlines.{least_deadline};
 ghost use Rattle.components.specs.Events.{noticed, later};
 ghost use Rattle.components.specs.Fitted.{Fitted, prepared_of};
 ghost use Rattle.components.specs.Readied.{KeepSteps};
+ghost use Rattle.components.specs.Views.{view_of};
+ghost use Rattle.step_runner.specs.Views.{those_shown};
 ghost use Rattle.components.specs.Components.{Components, At, component_name, is_settled, is_stopped};
 
 use crate::kinds::{Act, Event, Mode};
@@ -20,10 +22,10 @@ use nuc_base::{List, Name, NoMemory, Step};
 use recipe_reader::Skip;
 use records::{Item, Origin};
 use std::alloc::Global;
-use step_runner::Command;
+use step_runner::{Command, View};
 
-/// The calls of a supervisor, by what each makes of the components.
-pub trait Supervise {
+/// The calls of a supervisor, by what each makes of the components, of which it is a view itself.
+pub trait Supervise: View {
     /// What a later change takes: items that were made ready, and room for the components that stand.
     type Ready;
 
@@ -91,6 +93,10 @@ pub trait Supervise {
     fn broken(&self) -> Option<&Name>
         ensures { option_map (λ n. n.now) result ≡ broken_name (world self.now) };
 
+    /// How many are broken, and not to be stopped.
+    fn broken_count(&self) -> usize
+        ensures { result ≡ broken_count (world self.now) };
+
     /// The least deadline of a living step.
     fn next_deadline(&self) -> Option<u64>
         ensures least { result ≡ least_deadline (world self.now) }
@@ -118,4 +124,7 @@ pub trait Supervise {
     fn skip(&self, component: u32, step: Step) -> Option<&Skip>
         requires { At component (λ p. IsSome (prepared_of p.fitted step)) (world self.now).parts }
         ensures { At component (λ p. option_and_then (λ m. m.skip) (prepared_of p.fitted step) ≡ option_map (λ s. s.now) result) (world self.now).parts };
+
+    /// What it shows are the components that stand.
+    ghost shows: { (s : Self) → those_shown (Self.components s) ≡ view_of (world s) };
 }

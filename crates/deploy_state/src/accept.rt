@@ -10,8 +10,8 @@ ghost use Rattle.device.specs.Lawful.{Allowed, applied};
 ghost use Rattle.device.specs.Regularity.{IsRegularRecord};
 ghost use Rattle.device.specs.Sound.{IsSound};
 ghost use Rattle.device.specs.Spares.{IsSpareFor};
-ghost use Rattle.deploy_state.specs.Accepting.{HandsBack, HasStopped, IsFullAt, IsFullOrShort, IsHandedBack, booting_log, idle_log, receipt_id};
-ghost use Rattle.deploy_state.specs.Objects.{OwnsOver, KeepsOthers, LeavesDevice, LeavesOneOf, entry_start};
+ghost use Rattle.deploy_state.specs.Accepting.{HandsBack, HasDiskFailed, IsFullAt, IsFullOrShort, IsHandedBack, booting_log, idle_log, receipt_id};
+ghost use Rattle.deploy_state.specs.Objects.{OwnsOver, HasRoomTo, IsReady, KeepsOthers, LeavesDevice, LeavesOneOf, entry_start};
 ghost use Rattle.deploy_state.specs.States.{OwnsBooting, OwnsIdle, booting_device, idle_device};
 ghost use Rattle.deploy_state.specs.Turning.{IsTooFar, can_turn, is_turning, next_front, plan_bytes};
 
@@ -27,7 +27,7 @@ use records::{Plan, Record};
 use std::alloc::Global;
 use std::marker::PhantomData;
 
-/// What is kept free behind an accepted plan for the records up to its close.
+/// What is kept free behind an accepted plan for the records up to its close, and made room for.
 const KEPT: u64 = 2_097_152;
 
 /// What accepting a plan takes of memory, and the plan.
@@ -109,6 +109,8 @@ impl<J: Journal + Drop> Idle<J> {
         ensures receipt { IfOk result (λ r. receipt_id r.1 ≡ kit.id) }
         ensures end { IfOk result (λ r. J.end (booting_log r.0) ≡ J.end (idle_log self) + 5 + length kit.payload) }
         ensures number { IfOk result (λ r. J.number (booting_log r.0) ≡ J.number (idle_log self)) }
+        ensures ready { HasRoomTo D.Disk J.Journal (idle_log self) disk.old (J.end (idle_log self) + 6 + length kit.payload + 2097152) →
+            IsTrue D.is_modelled → IfOk result (λ r. IsReady D.Disk J.Journal (booting_log r.0) disk.new (booting_device r.0)) }
         ensures others { KeepsOthers D.Disk J.Journal disk.old disk.new }
         ensures cause { HasCause (D.faults disk.old) (D.faults disk.new) result }
         ensures quiet { OnOk result (D.faults disk.new ≡ D.faults disk.old) }
@@ -147,6 +149,7 @@ impl<J: Journal + Drop> Idle<J> {
         alloc: Global,
         disk: &mut D,
         kit: Kit,
+        to: u64,
     ) -> Result<(Booting<J>, Receipt), AcceptRefusal<J>>
         requires held { OwnsOver D.Disk J.Journal OwnsIdle self disk.old }
         requires lawful { Allowed (idle_device self) (stored.Accepted (plan_view kit.plan)) }
@@ -155,6 +158,7 @@ impl<J: Journal + Drop> Idle<J> {
         requires spare { IsSpareFor kit.spare (idle_device self) (plan_view kit.plan) }
         requires can { IsTrue (can_turn (J.turns (idle_log self)) (J.number (idle_log self))) }
         requires room { next_front J.number (idle_log self) (idle_device self) + 6 + length kit.payload + 2097152 ≤ most_file }
+        requires to { to ≡ next_front J.number (idle_log self) (idle_device self) + 6 + length kit.payload + 2097152 }
         ensures moments { LeavesOneOf D.Disk J.Journal disk.old disk.new (idle_device self)
             (applied (idle_device self) (stored.Accepted (plan_view kit.plan))) }
         ensures unmade { IsHandedBack result → LeavesDevice D.Disk J.Journal disk.old disk.new (idle_device self) }
@@ -165,13 +169,14 @@ impl<J: Journal + Drop> Idle<J> {
         ensures number { IfOk result (λ r. J.number (booting_log r.0) ≡ J.number (idle_log self) + 1) }
         ensures back { HandsBack (λ s. OwnsOver D.Disk J.Journal OwnsIdle s disk.new × (idle_device s ≡ idle_device self)) result }
         ensures fits { (at : ℕ) → IsFullAt result at → ⊥ }
+        ensures ready { IsTrue D.is_modelled → IfOk result (λ r. IsReady D.Disk J.Journal (booting_log r.0) disk.new (booting_device r.0)) }
         ensures others { KeepsOthers D.Disk J.Journal disk.old disk.new }
-        ensures cause { HasStopped result → Rose (D.faults disk.old) (D.faults disk.new) }
-        ensures quiet { ¬ (HasStopped result) → D.faults disk.new ≡ D.faults disk.old }
+        ensures cause { HasDiskFailed result → Rose (D.faults disk.old) (D.faults disk.new) }
+        ensures quiet { ¬ (HasDiskFailed result) → D.faults disk.new ≡ D.faults disk.old }
         ensures later { D.faults disk.old ≤ D.faults disk.new }
     {
         let mut state = self;
-        match turn(alloc, &mut state.log, &state.device, disk) {
+        match turn(alloc, &mut state.log, &state.device, disk, to) {
             Ok(()) => match state.enter(disk, kit) {
                 Ok(entered) => Ok(entered),
                 Err(stopped) => Err(AcceptRefusal::Stopped(stopped)),
@@ -179,6 +184,10 @@ impl<J: Journal + Drop> Idle<J> {
             Err(TurnFault::NoMemory) => {
                 drop(kit);
                 Err(AcceptRefusal::NoMemory(state))
+            }
+            Err(TurnFault::NoRoom) => {
+                drop(kit);
+                Err(AcceptRefusal::NoRoom(state))
             }
             Err(TurnFault::Disk) => {
                 drop(kit);
@@ -188,7 +197,7 @@ impl<J: Journal + Drop> Idle<J> {
         }
     }
 
-    /// Adds the entry of the plan at its site, where it has room.
+    /// Adds the entry of the plan at its site, where it has room. The disk is asked first for that room, and for what may follow.
     fn enter_at<D: Disk>(
         self,
         alloc: Global,
@@ -213,14 +222,20 @@ impl<J: Journal + Drop> Idle<J> {
         ensures end { IfOk result (λ r. J.end (booting_log r.0) ≡ site.start + 5 + length kit.payload) }
         ensures back { HandsBack (λ s. OwnsOver D.Disk J.Journal OwnsIdle s disk.new × (idle_device s ≡ idle_device self)) result }
         ensures fits { (at : ℕ) → IsFullAt result at → ⊥ }
+        ensures ready { IsTrue D.is_modelled → IfOk result (λ r. IsReady D.Disk J.Journal (booting_log r.0) disk.new (booting_device r.0)) }
         ensures others { KeepsOthers D.Disk J.Journal disk.old disk.new }
-        ensures cause { HasStopped result → Rose (D.faults disk.old) (D.faults disk.new) }
-        ensures quiet { ¬ (HasStopped result) → D.faults disk.new ≡ D.faults disk.old }
+        ensures cause { HasDiskFailed result → Rose (D.faults disk.old) (D.faults disk.new) }
+        ensures quiet { ¬ (HasDiskFailed result) → D.faults disk.new ≡ D.faults disk.old }
         ensures later { D.faults disk.old ≤ D.faults disk.new }
     {
+        let to = site.start + 6 + kit.payload.len() as u64 + KEPT;
         if site.turns {
-            return self.enter_anew(alloc, disk, kit);
+            return self.enter_anew(alloc, disk, kit, to);
         }
+        let Ok(()) = self.log.reserve(disk, to) else {
+            drop(kit);
+            return Err(AcceptRefusal::NoRoom(self));
+        };
         match self.enter(disk, kit) {
             Ok(entered) => Ok(entered),
             Err(stopped) => Err(AcceptRefusal::Stopped(stopped)),
@@ -235,7 +250,7 @@ impl<J: Journal + Drop> Idle<J> {
     }
 
     /// Accepts a plan, and answers a receipt once its entry is stable. All memory for the steps up to the close is taken
-    /// before that entry is written. The journal is begun anew first where the entry would take it beyond twice the front of
+    /// before that entry is written, and the disk is asked for their room before its first write. The journal is begun anew first where the entry would take it beyond twice the front of
     /// the device and 1,048,576 bytes more.
     pub fn accept<D: Disk>(
         self,
@@ -266,9 +281,11 @@ impl<J: Journal + Drop> Idle<J> {
         ensures bound { IsTrue (can_turn (J.turns (idle_log self)) (J.number (idle_log self))) → IfOk result (λ r. J.end (booting_log r.0)
             ≤ max (2 * next_front J.number (idle_log self) (idle_device self) + 1048576)
             (next_front J.number (idle_log self) (idle_device self) + 6 + plan_bytes (plan_view plan))) }
+        // Room stands ready then for each record up to the close.
+        ensures ready { IsTrue D.is_modelled → IfOk result (λ r. IsReady D.Disk J.Journal (booting_log r.0) disk.new (booting_device r.0)) }
         ensures others { KeepsOthers D.Disk J.Journal disk.old disk.new }
-        ensures cause { HasStopped result → Rose (D.faults disk.old) (D.faults disk.new) }
-        ensures quiet { ¬ (HasStopped result) → D.faults disk.new ≡ D.faults disk.old }
+        ensures cause { HasDiskFailed result → Rose (D.faults disk.old) (D.faults disk.new) }
+        ensures quiet { ¬ (HasDiskFailed result) → D.faults disk.new ≡ D.faults disk.old }
         ensures later { D.faults disk.old ≤ D.faults disk.new }
     {
         let Ok(kit) = prepare(alloc, &self.device, plan) else {

@@ -1,5 +1,5 @@
 // The plan's items are brought up.
-ghost use Rattle.std.specs.Prelude.{◌≡◌, OnOk, IfOk, option_map};
+ghost use Rattle.std.specs.Prelude.{◌≡◌, IsTrue, OnOk, IfOk, option_map};
 ghost use Rattle.nuc_base.specs.Faults.{HasCause};
 ghost use Rattle.records.specs.Stored as stored;
 ghost use Rattle.records.specs.Stored.{Record};
@@ -7,8 +7,8 @@ ghost use Rattle.device.specs.Devices.{device_view};
 ghost use Rattle.device.specs.Lawful.{Allowed, applied};
 ghost use Rattle.nuc_base.specs.declared.kinds.Outcome.TheVariants as outcomes;
 ghost use Rattle.deploy_state.specs.Fields.{CanBreakOff, IsBreak, broken_item};
-ghost use Rattle.deploy_state.specs.Objects.{OwnsOver, KeepsOthers, LeavesOneOf};
-ghost use Rattle.deploy_state.specs.States.{OwnsActivating, OwnsBrokenOff, OwnsIdle, activating_device, broken_device, idle_device};
+ghost use Rattle.deploy_state.specs.Objects.{OwnsOver, IsReady, IsSpared, KeepsOthers, LeavesOneOf};
+ghost use Rattle.deploy_state.specs.States.{OwnsActivating, OwnsBrokenOff, OwnsIdle, activating_device, activating_log, broken_device, broken_log, idle_device};
 
 use crate::names::broken_in;
 use crate::state::{Activating, BrokeOff, Idle, Stopped};
@@ -46,6 +46,9 @@ impl<J: Journal + Drop> Activating<J> {
             (applied (activating_device self) (stored.StepFailed name.now step exit)) }
         ensures taken { IfOk result (λ s. activating_device s ≡ applied (activating_device self) (stored.StepFailed name.now step exit)) }
         ensures held { IfOk result (λ s. OwnsOver D.Disk J.Journal OwnsActivating s disk.new) }
+        ensures spared { IsSpared D.Disk J.Journal (activating_log self) disk.old (activating_device self) disk.new }
+        ensures ready { IsTrue D.is_modelled → IsReady D.Disk J.Journal (activating_log self) disk.old (activating_device self) →
+            IfOk result (λ s. IsReady D.Disk J.Journal (activating_log s) disk.new (activating_device s)) }
         ensures others { KeepsOthers D.Disk J.Journal disk.old disk.new }
         ensures cause { HasCause (D.faults disk.old) (D.faults disk.new) result }
         ensures quiet { OnOk result (D.faults disk.new ≡ D.faults disk.old) }
@@ -65,6 +68,9 @@ impl<J: Journal + Drop> Activating<J> {
             (applied (activating_device self) r) }
         ensures taken { (r : Record) → IsBreak (activating_device self) r → IfOk result (λ s. broken_device s ≡ applied (activating_device self) r) }
         ensures held { IfOk result (λ s. OwnsOver D.Disk J.Journal OwnsBrokenOff s disk.new) }
+        ensures spared { IsSpared D.Disk J.Journal (activating_log self) disk.old (activating_device self) disk.new }
+        ensures ready { IsTrue D.is_modelled → IsReady D.Disk J.Journal (activating_log self) disk.old (activating_device self) →
+            IfOk result (λ s. IsReady D.Disk J.Journal (broken_log s) disk.new (broken_device s)) }
         ensures others { KeepsOthers D.Disk J.Journal disk.old disk.new }
         ensures cause { HasCause (D.faults disk.old) (D.faults disk.new) result }
         ensures quiet { OnOk result (D.faults disk.new ≡ D.faults disk.old) }
@@ -80,6 +86,7 @@ impl<J: Journal + Drop> Activating<J> {
             (applied (activating_device self) (stored.Closed outcomes.RollbackNotRequested)) }
         ensures taken { IfOk result (λ s. idle_device s ≡ applied (activating_device self) (stored.Closed outcomes.RollbackNotRequested)) }
         ensures held { IfOk result (λ s. OwnsOver D.Disk J.Journal OwnsIdle s disk.new) }
+        ensures spared { IsSpared D.Disk J.Journal (activating_log self) disk.old (activating_device self) disk.new }
         ensures others { KeepsOthers D.Disk J.Journal disk.old disk.new }
         ensures cause { HasCause (D.faults disk.old) (D.faults disk.new) result }
         ensures quiet { OnOk result (D.faults disk.new ≡ D.faults disk.old) }
@@ -95,6 +102,7 @@ impl<J: Journal + Drop> Activating<J> {
             (applied (activating_device self) (stored.Closed outcomes.Successful)) }
         ensures taken { IfOk result (λ s. idle_device s ≡ applied (activating_device self) (stored.Closed outcomes.Successful)) }
         ensures held { IfOk result (λ s. OwnsOver D.Disk J.Journal OwnsIdle s disk.new) }
+        ensures spared { IsSpared D.Disk J.Journal (activating_log self) disk.old (activating_device self) disk.new }
         ensures others { KeepsOthers D.Disk J.Journal disk.old disk.new }
         ensures cause { HasCause (D.faults disk.old) (D.faults disk.new) result }
         ensures quiet { OnOk result (D.faults disk.new ≡ D.faults disk.old) }

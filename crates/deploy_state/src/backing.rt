@@ -1,5 +1,5 @@
 // The bootstrap steps that run again on the way back.
-ghost use Rattle.std.specs.Prelude.{◌≡◌, OnOk, IfOk, IsOkAnd, option_map};
+ghost use Rattle.std.specs.Prelude.{◌≡◌, IsTrue, OnOk, IfOk, IsOkAnd, option_map};
 ghost use Rattle.nuc_base.specs.Faults.{HasCause};
 ghost use Rattle.records.specs.Stored as stored;
 ghost use Rattle.records.specs.Stored.{Record};
@@ -9,9 +9,9 @@ ghost use Rattle.device.specs.Marks.{IsMark};
 ghost use Rattle.device.specs.declared.mark.Mark.TheVariants as marks;
 ghost use Rattle.nuc_base.specs.declared.kinds.Outcome.TheVariants as outcomes;
 ghost use Rattle.deploy_state.specs.Fields.{CanBegin, IsBegun, has_failed, next_name};
-ghost use Rattle.deploy_state.specs.Objects.{OwnsOver, KeepsOthers, LeavesOneOf};
+ghost use Rattle.deploy_state.specs.Objects.{OwnsOver, IsReady, IsSpared, KeepsOthers, LeavesOneOf};
 ghost use Rattle.deploy_state.specs.Owned.{MayMark};
-ghost use Rattle.deploy_state.specs.States.{OwnsBacked, OwnsBacking, OwnsIdle, backed_device, backing_device, idle_device};
+ghost use Rattle.deploy_state.specs.States.{OwnsBacked, OwnsBacking, OwnsIdle, backed_device, backed_log, backing_device, backing_log, idle_device};
 
 use crate::names::{failed_in, next_in};
 use crate::state::{Backed, Backing, Idle, Rolling, Stopped};
@@ -52,6 +52,9 @@ impl<J: Journal + Drop> Backing<J> {
         ensures taken { (r : Record) → IsMark (backing_device self) marks.BootBegun r → IfOk result (λ s. backing_device s ≡ applied (backing_device self) r) }
         ensures held { IfOk result (λ s. OwnsOver D.Disk J.Journal OwnsBacking s disk.new) }
         ensures silent { IsBegun (backing_device self) → (disk.new ≡ disk.old) × IsOkAnd result (λ s. s ≡ self) }
+        ensures spared { IsSpared D.Disk J.Journal (backing_log self) disk.old (backing_device self) disk.new }
+        ensures ready { IsTrue D.is_modelled → IsReady D.Disk J.Journal (backing_log self) disk.old (backing_device self) →
+            IfOk result (λ s. IsReady D.Disk J.Journal (backing_log s) disk.new (backing_device s)) }
         ensures others { KeepsOthers D.Disk J.Journal disk.old disk.new }
         ensures cause { HasCause (D.faults disk.old) (D.faults disk.new) result }
         ensures quiet { OnOk result (D.faults disk.new ≡ D.faults disk.old) }
@@ -72,6 +75,9 @@ impl<J: Journal + Drop> Backing<J> {
         ensures taken { (r : Record) → IsMark (backing_device self) (marks.BootEnded exit) r →
             IfOk result (λ s. backed_device s ≡ applied (backing_device self) r) }
         ensures held { IfOk result (λ s. OwnsOver D.Disk J.Journal OwnsBacked s disk.new) }
+        ensures spared { IsSpared D.Disk J.Journal (backing_log self) disk.old (backing_device self) disk.new }
+        ensures ready { IsTrue D.is_modelled → IsReady D.Disk J.Journal (backing_log self) disk.old (backing_device self) →
+            IfOk result (λ s. IsReady D.Disk J.Journal (backed_log s) disk.new (backed_device s)) }
         ensures others { KeepsOthers D.Disk J.Journal disk.old disk.new }
         ensures cause { HasCause (D.faults disk.old) (D.faults disk.new) result }
         ensures quiet { OnOk result (D.faults disk.new ≡ D.faults disk.old) }
@@ -96,6 +102,7 @@ impl<J: Journal + Drop> Backing<J> {
             (applied (backing_device self) (stored.Closed outcomes.UnableToRollback)) }
         ensures taken { IfOk result (λ s. idle_device s ≡ applied (backing_device self) (stored.Closed outcomes.UnableToRollback)) }
         ensures held { IfOk result (λ s. OwnsOver D.Disk J.Journal OwnsIdle s disk.new) }
+        ensures spared { IsSpared D.Disk J.Journal (backing_log self) disk.old (backing_device self) disk.new }
         ensures others { KeepsOthers D.Disk J.Journal disk.old disk.new }
         ensures cause { HasCause (D.faults disk.old) (D.faults disk.new) result }
         ensures quiet { OnOk result (D.faults disk.new ≡ D.faults disk.old) }

@@ -1,5 +1,5 @@
 // The bootstrap steps of the plan.
-ghost use Rattle.std.specs.Prelude.{◌≡◌, OnOk, IfOk, IsOkAnd, option_map};
+ghost use Rattle.std.specs.Prelude.{◌≡◌, IsTrue, OnOk, IfOk, IsOkAnd, option_map};
 ghost use Rattle.nuc_base.specs.Faults.{HasCause};
 ghost use Rattle.records.specs.Stored as stored;
 ghost use Rattle.records.specs.Stored.{Record};
@@ -8,11 +8,12 @@ ghost use Rattle.device.specs.Lawful.{Allowed, applied};
 ghost use Rattle.device.specs.Marks.{IsMark};
 ghost use Rattle.device.specs.declared.mark.Mark.TheVariants as marks;
 ghost use Rattle.nuc_base.specs.declared.kinds.Outcome.TheVariants as outcomes;
+ghost use Rattle.deploy_state.specs.Accepting.{booting_log};
 ghost use Rattle.deploy_state.specs.Fields.{CanBegin, CanBreakOff, IsBegun, IsBreak, has_failed, next_name};
-ghost use Rattle.deploy_state.specs.Objects.{OwnsOver, KeepsOthers, LeavesOneOf};
+ghost use Rattle.deploy_state.specs.Objects.{OwnsOver, IsReady, IsSpared, KeepsOthers, LeavesOneOf};
 ghost use Rattle.deploy_state.specs.Owned.{MayMark};
 ghost use Rattle.deploy_state.specs.States.{OwnsActivating, OwnsBooting, OwnsBrokenOff, OwnsIdle};
-ghost use Rattle.deploy_state.specs.States.{activating_device, booting_device, broken_device, idle_device};
+ghost use Rattle.deploy_state.specs.States.{activating_device, activating_log, booting_device, broken_device, broken_log, idle_device};
 
 use crate::names::{failed_in, next_in};
 use crate::state::{Activating, Booting, BrokeOff, Idle, Stopped};
@@ -53,6 +54,9 @@ impl<J: Journal + Drop> Booting<J> {
         ensures taken { (r : Record) → IsMark (booting_device self) marks.BootBegun r → IfOk result (λ s. booting_device s ≡ applied (booting_device self) r) }
         ensures held { IfOk result (λ s. OwnsOver D.Disk J.Journal OwnsBooting s disk.new) }
         ensures silent { IsBegun (booting_device self) → (disk.new ≡ disk.old) × IsOkAnd result (λ s. s ≡ self) }
+        ensures spared { IsSpared D.Disk J.Journal (booting_log self) disk.old (booting_device self) disk.new }
+        ensures ready { IsTrue D.is_modelled → IsReady D.Disk J.Journal (booting_log self) disk.old (booting_device self) →
+            IfOk result (λ s. IsReady D.Disk J.Journal (booting_log s) disk.new (booting_device s)) }
         ensures others { KeepsOthers D.Disk J.Journal disk.old disk.new }
         ensures cause { HasCause (D.faults disk.old) (D.faults disk.new) result }
         ensures quiet { OnOk result (D.faults disk.new ≡ D.faults disk.old) }
@@ -73,6 +77,9 @@ impl<J: Journal + Drop> Booting<J> {
         ensures taken { (r : Record) → IsMark (booting_device self) (marks.BootEnded exit) r →
             IfOk result (λ s. booting_device s ≡ applied (booting_device self) r) }
         ensures held { IfOk result (λ s. OwnsOver D.Disk J.Journal OwnsBooting s disk.new) }
+        ensures spared { IsSpared D.Disk J.Journal (booting_log self) disk.old (booting_device self) disk.new }
+        ensures ready { IsTrue D.is_modelled → IsReady D.Disk J.Journal (booting_log self) disk.old (booting_device self) →
+            IfOk result (λ s. IsReady D.Disk J.Journal (booting_log s) disk.new (booting_device s)) }
         ensures others { KeepsOthers D.Disk J.Journal disk.old disk.new }
         ensures cause { HasCause (D.faults disk.old) (D.faults disk.new) result }
         ensures quiet { OnOk result (D.faults disk.new ≡ D.faults disk.old) }
@@ -91,6 +98,9 @@ impl<J: Journal + Drop> Booting<J> {
             (applied (booting_device self) stored.Activating) }
         ensures taken { IfOk result (λ s. activating_device s ≡ applied (booting_device self) stored.Activating) }
         ensures held { IfOk result (λ s. OwnsOver D.Disk J.Journal OwnsActivating s disk.new) }
+        ensures spared { IsSpared D.Disk J.Journal (booting_log self) disk.old (booting_device self) disk.new }
+        ensures ready { IsTrue D.is_modelled → IsReady D.Disk J.Journal (booting_log self) disk.old (booting_device self) →
+            IfOk result (λ s. IsReady D.Disk J.Journal (activating_log s) disk.new (activating_device s)) }
         ensures others { KeepsOthers D.Disk J.Journal disk.old disk.new }
         ensures cause { HasCause (D.faults disk.old) (D.faults disk.new) result }
         ensures quiet { OnOk result (D.faults disk.new ≡ D.faults disk.old) }
@@ -110,6 +120,9 @@ impl<J: Journal + Drop> Booting<J> {
             (applied (booting_device self) r) }
         ensures taken { (r : Record) → IsBreak (booting_device self) r → IfOk result (λ s. broken_device s ≡ applied (booting_device self) r) }
         ensures held { IfOk result (λ s. OwnsOver D.Disk J.Journal OwnsBrokenOff s disk.new) }
+        ensures spared { IsSpared D.Disk J.Journal (booting_log self) disk.old (booting_device self) disk.new }
+        ensures ready { IsTrue D.is_modelled → IsReady D.Disk J.Journal (booting_log self) disk.old (booting_device self) →
+            IfOk result (λ s. IsReady D.Disk J.Journal (broken_log s) disk.new (broken_device s)) }
         ensures others { KeepsOthers D.Disk J.Journal disk.old disk.new }
         ensures cause { HasCause (D.faults disk.old) (D.faults disk.new) result }
         ensures quiet { OnOk result (D.faults disk.new ≡ D.faults disk.old) }
@@ -125,6 +138,7 @@ impl<J: Journal + Drop> Booting<J> {
             (applied (booting_device self) (stored.Closed outcomes.RollbackNotRequested)) }
         ensures taken { IfOk result (λ s. idle_device s ≡ applied (booting_device self) (stored.Closed outcomes.RollbackNotRequested)) }
         ensures held { IfOk result (λ s. OwnsOver D.Disk J.Journal OwnsIdle s disk.new) }
+        ensures spared { IsSpared D.Disk J.Journal (booting_log self) disk.old (booting_device self) disk.new }
         ensures others { KeepsOthers D.Disk J.Journal disk.old disk.new }
         ensures cause { HasCause (D.faults disk.old) (D.faults disk.new) result }
         ensures quiet { OnOk result (D.faults disk.new ≡ D.faults disk.old) }

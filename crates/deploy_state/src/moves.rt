@@ -9,8 +9,8 @@ ghost use Rattle.device.specs.Marks.{IsMark};
 ghost use Rattle.device.specs.declared.mark.Mark.TheVariants as marks;
 ghost use Rattle.device.specs.declared.staged.Stage.TheVariants as stages;
 ghost use Rattle.deploy_state.specs.Fields.{CanBegin, CanBreakOff, IsBegun, IsBreak};
-ghost use Rattle.deploy_state.specs.Objects.{OwnsOver, KeepsOthers, LeavesOneOf};
-ghost use Rattle.deploy_state.specs.States.{OwnsBrokenOff, IsHeld, IsIn, broken_device, device_of};
+ghost use Rattle.deploy_state.specs.Objects.{OwnsOver, IsReady, IsSpared, KeepsOthers, LeavesOneOf};
+ghost use Rattle.deploy_state.specs.States.{OwnsBrokenOff, IsHeld, IsIn, broken_device, broken_log, device_of, hand_log};
 
 use crate::state::{Backing, BrokeOff, Hand, Rolling, Stopped};
 use device::{Mark, Stage, running_place};
@@ -47,6 +47,9 @@ impl<J: Journal + Drop> Hand<J> {
         ensures taken { (r : Record) → IsMark (device_of self) marks.BootBegun r → IfOk result (λ s. device_of s ≡ applied (device_of self) r) }
         ensures held { IfOk result (λ s. OwnsOver D.Disk J.Journal IsHeld s disk.new) }
         ensures silent { IsBegun (device_of self) → (disk.new ≡ disk.old) × IsOkAnd result (λ h. h ≡ self) }
+        ensures spared { IsSpared D.Disk J.Journal (hand_log self) disk.old (device_of self) disk.new }
+        ensures ready { IsTrue D.is_modelled → IsReady D.Disk J.Journal (hand_log self) disk.old (device_of self) →
+            IfOk result (λ s. IsReady D.Disk J.Journal (hand_log s) disk.new (device_of s)) }
         ensures others { KeepsOthers D.Disk J.Journal disk.old disk.new }
         ensures cause { HasCause (D.faults disk.old) (D.faults disk.new) result }
         ensures quiet { OnOk result (D.faults disk.new ≡ D.faults disk.old) }
@@ -85,6 +88,9 @@ impl<J: Journal + Drop> Hand<J> {
         ensures moments { LeavesOneOf D.Disk J.Journal disk.old disk.new (device_of self) (applied (device_of self) (stored.StepFailed name.now step exit)) }
         ensures taken { IfOk result (λ s. device_of s ≡ applied (device_of self) (stored.StepFailed name.now step exit)) }
         ensures held { IfOk result (λ s. OwnsOver D.Disk J.Journal IsHeld s disk.new) }
+        ensures spared { IsSpared D.Disk J.Journal (hand_log self) disk.old (device_of self) disk.new }
+        ensures ready { IsTrue D.is_modelled → IsReady D.Disk J.Journal (hand_log self) disk.old (device_of self) →
+            IfOk result (λ s. IsReady D.Disk J.Journal (hand_log s) disk.new (device_of s)) }
         ensures others { KeepsOthers D.Disk J.Journal disk.old disk.new }
         ensures cause { HasCause (D.faults disk.old) (D.faults disk.new) result }
         ensures quiet { OnOk result (D.faults disk.new ≡ D.faults disk.old) }
@@ -102,6 +108,9 @@ impl<J: Journal + Drop> Hand<J> {
             LeavesOneOf D.Disk J.Journal disk.old disk.new (device_of self) (applied (device_of self) r) }
         ensures taken { (r : Record) → IsBreak (device_of self) r → IfOk result (λ s. broken_device s ≡ applied (device_of self) r) }
         ensures held { IfOk result (λ s. OwnsOver D.Disk J.Journal OwnsBrokenOff s disk.new) }
+        ensures spared { IsSpared D.Disk J.Journal (hand_log self) disk.old (device_of self) disk.new }
+        ensures ready { IsTrue D.is_modelled → IsReady D.Disk J.Journal (hand_log self) disk.old (device_of self) →
+            IfOk result (λ s. IsReady D.Disk J.Journal (broken_log s) disk.new (broken_device s)) }
         ensures others { KeepsOthers D.Disk J.Journal disk.old disk.new }
         ensures cause { HasCause (D.faults disk.old) (D.faults disk.new) result }
         ensures quiet { OnOk result (D.faults disk.new ≡ D.faults disk.old) }

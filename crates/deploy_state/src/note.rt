@@ -1,14 +1,14 @@
 // A record is noted in the journal and taken by the device.
-ghost use Rattle.std.specs.Prelude.{◌≡◌, OnOk, IfOk};
+ghost use Rattle.std.specs.Prelude.{◌≡◌, IsTrue, OnOk, IfOk};
 ghost use Rattle.nuc_base.specs.Faults.{HasCause};
 ghost use Rattle.records.specs.Stored as stored;
 ghost use Rattle.records.specs.Stored.{Record};
 ghost use Rattle.device.specs.Lawful.{Allowed, applied};
 ghost use Rattle.device.specs.Marks.{IsMark, IsClosing};
 ghost use Rattle.device.specs.Spares.{IsSpareOf};
-ghost use Rattle.deploy_state.specs.Objects.{OwnsOver, KeepsOthers, LeavesOneOf, OwnsJournalOn};
+ghost use Rattle.deploy_state.specs.Objects.{OwnsOver, IsReady, IsSpared, KeepsOthers, LeavesOneOf, OwnsJournalOn};
 ghost use Rattle.deploy_state.specs.Owned.{MayMark};
-ghost use Rattle.deploy_state.specs.States.{IsHeld, OwnsIdle, device_of, idle_device};
+ghost use Rattle.deploy_state.specs.States.{IsHeld, OwnsIdle, device_of, hand_log, idle_device};
 
 use crate::state::{Hand, Idle, Stopped};
 use device::Mark;
@@ -29,6 +29,9 @@ impl<J: Journal + Drop> Hand<J> {
         ensures taken { (r : Record) → IsMark (device_of self.old) mark r → OnOk result (device_of self.new ≡ applied (device_of self.old) r) }
         ensures hand { OnOk result (OwnsJournalOn D.Disk J.Journal self.new.log disk.new (device_of self.new)) }
         ensures spare { OnOk result (¬ (IsClosing mark) → IsSpareOf self.new.spare (device_of self.new)) }
+        ensures spared { IsSpared D.Disk J.Journal (hand_log self.old) disk.old (device_of self.old) disk.new }
+        ensures ready { IsTrue D.is_modelled → IsReady D.Disk J.Journal (hand_log self.old) disk.old (device_of self.old) →
+            OnOk result (IsReady D.Disk J.Journal (hand_log self.new) disk.new (device_of self.new)) }
         ensures others { KeepsOthers D.Disk J.Journal disk.old disk.new }
         ensures cause { HasCause (D.faults disk.old) (D.faults disk.new) result }
         ensures quiet { OnOk result (D.faults disk.new ≡ D.faults disk.old) }
@@ -56,6 +59,9 @@ impl<J: Journal + Drop> Hand<J> {
             LeavesOneOf D.Disk J.Journal disk.old disk.new (device_of self) (applied (device_of self) r) }
         ensures taken { (r : Record) → IsMark (device_of self) mark r → IfOk result (λ h. device_of h ≡ applied (device_of self) r) }
         ensures held { IfOk result (λ h. OwnsOver D.Disk J.Journal IsHeld h disk.new) }
+        ensures spared { IsSpared D.Disk J.Journal (hand_log self) disk.old (device_of self) disk.new }
+        ensures ready { IsTrue D.is_modelled → IsReady D.Disk J.Journal (hand_log self) disk.old (device_of self) →
+            IfOk result (λ s. IsReady D.Disk J.Journal (hand_log s) disk.new (device_of s)) }
         ensures others { KeepsOthers D.Disk J.Journal disk.old disk.new }
         ensures cause { HasCause (D.faults disk.old) (D.faults disk.new) result }
         ensures quiet { OnOk result (D.faults disk.new ≡ D.faults disk.old) }
@@ -78,6 +84,7 @@ impl<J: Journal + Drop> Hand<J> {
         ensures moments { LeavesOneOf D.Disk J.Journal disk.old disk.new (device_of self) (applied (device_of self) (stored.Closed outcome)) }
         ensures taken { IfOk result (λ s. idle_device s ≡ applied (device_of self) (stored.Closed outcome)) }
         ensures idle { IfOk result (λ s. OwnsOver D.Disk J.Journal OwnsIdle s disk.new) }
+        ensures spared { IsSpared D.Disk J.Journal (hand_log self) disk.old (device_of self) disk.new }
         ensures others { KeepsOthers D.Disk J.Journal disk.old disk.new }
         ensures cause { HasCause (D.faults disk.old) (D.faults disk.new) result }
         ensures quiet { OnOk result (D.faults disk.new ≡ D.faults disk.old) }

@@ -1,12 +1,12 @@
 // The items of the set are brought up again.
-ghost use Rattle.std.specs.Prelude.{◌≡◌, OnOk, IfOk, option_map};
+ghost use Rattle.std.specs.Prelude.{◌≡◌, IsTrue, OnOk, IfOk, option_map};
 ghost use Rattle.nuc_base.specs.Faults.{HasCause};
 ghost use Rattle.records.specs.Stored as stored;
 ghost use Rattle.device.specs.Devices.{device_view};
 ghost use Rattle.device.specs.Lawful.{Allowed, applied};
 ghost use Rattle.deploy_state.specs.Fields.{broken_item, rolled_outcome};
-ghost use Rattle.deploy_state.specs.Objects.{OwnsOver, KeepsOthers, LeavesOneOf};
-ghost use Rattle.deploy_state.specs.States.{OwnsIdle, OwnsRolling, idle_device, rolling_device};
+ghost use Rattle.deploy_state.specs.Objects.{OwnsOver, IsReady, IsSpared, KeepsOthers, LeavesOneOf};
+ghost use Rattle.deploy_state.specs.States.{OwnsIdle, OwnsRolling, idle_device, rolling_device, rolling_log};
 
 use crate::names::{broken_in, outcome_in};
 use crate::state::{Idle, Rolling, Stopped};
@@ -44,6 +44,9 @@ impl<J: Journal + Drop> Rolling<J> {
             (applied (rolling_device self) (stored.StepFailed name.now step exit)) }
         ensures taken { IfOk result (λ s. rolling_device s ≡ applied (rolling_device self) (stored.StepFailed name.now step exit)) }
         ensures held { IfOk result (λ s. OwnsOver D.Disk J.Journal OwnsRolling s disk.new) }
+        ensures spared { IsSpared D.Disk J.Journal (rolling_log self) disk.old (rolling_device self) disk.new }
+        ensures ready { IsTrue D.is_modelled → IsReady D.Disk J.Journal (rolling_log self) disk.old (rolling_device self) →
+            IfOk result (λ s. IsReady D.Disk J.Journal (rolling_log s) disk.new (rolling_device s)) }
         ensures others { KeepsOthers D.Disk J.Journal disk.old disk.new }
         ensures cause { HasCause (D.faults disk.old) (D.faults disk.new) result }
         ensures quiet { OnOk result (D.faults disk.new ≡ D.faults disk.old) }
@@ -61,6 +64,7 @@ impl<J: Journal + Drop> Rolling<J> {
             (applied (rolling_device self) (stored.Closed (rolled_outcome (rolling_device self)))) }
         ensures taken { IfOk result (λ s. idle_device s ≡ applied (rolling_device self) (stored.Closed (rolled_outcome (rolling_device self)))) }
         ensures held { IfOk result (λ s. OwnsOver D.Disk J.Journal OwnsIdle s disk.new) }
+        ensures spared { IsSpared D.Disk J.Journal (rolling_log self) disk.old (rolling_device self) disk.new }
         ensures others { KeepsOthers D.Disk J.Journal disk.old disk.new }
         ensures cause { HasCause (D.faults disk.old) (D.faults disk.new) result }
         ensures quiet { OnOk result (D.faults disk.new ≡ D.faults disk.old) }

@@ -11,7 +11,7 @@ ghost use Rattle.records.specs.Layout.{Spelled};
 ghost use Rattle.device.specs.Devices.{device_view, IsRegularDevice};
 ghost use Rattle.device.specs.Fronts.{Front, HasFront};
 ghost use Rattle.device.specs.Standing.{StandsFor};
-ghost use Rattle.deploy_state.specs.Objects.{KeepsOthers, OwnsJournalOn};
+ghost use Rattle.deploy_state.specs.Objects.{HasRoomTo, KeepsOthers, OwnsJournalOn};
 ghost use Rattle.deploy_state.specs.Turning.{AreSpelled, can_turn, front_bytes, front_payloads};
 
 use device::Device;
@@ -25,6 +25,8 @@ use std::alloc::Global;
 pub enum TurnFault {
     Disk,
     NoMemory,
+    /// The disk failed where it was asked for room.
+    NoRoom,
 }
 
 impl From<DiskFault> for TurnFault {
@@ -75,6 +77,8 @@ fn put_next<J: Journal, D: Disk>(
     ensures stays { ¬ (IsErrOf result TurnFault.Disk) → (payloads : List (List ℕ)) → IsBehind D.may_leave J.stands log.old disk.old payloads →
         IsBehind D.may_leave J.stands log.new disk.new payloads }
     ensures same { (J.end log.new ≡ J.end log.old) × (J.number log.new ≡ J.number log.old) × (J.turns log.new ≡ J.turns log.old) }
+    ensures room { IsTrue D.is_modelled → OnOk result (J.put_room log.old (D.seen disk.old) ≤ J.put_room log.new (D.seen disk.new)) }
+    ensures apart { IsErrOf result TurnFault.NoRoom → ⊥ }
     ensures others { KeepsOthers D.Disk J.Journal disk.old disk.new }
     ensures cause { IsErrOf result TurnFault.Disk → Rose (D.faults disk.old) (D.faults disk.new) }
     ensures quiet { ¬ (IsErrOf result TurnFault.Disk) → D.faults disk.new ≡ D.faults disk.old }
@@ -112,6 +116,8 @@ fn put_front<J: Journal, D: Disk>(
     ensures stays { ¬ (IsErrOf result TurnFault.Disk) → (payloads : List (List ℕ)) → IsBehind D.may_leave J.stands log.old disk.old payloads →
         IsBehind D.may_leave J.stands log.new disk.new payloads }
     ensures same { (J.end log.new ≡ J.end log.old) × (J.number log.new ≡ J.number log.old) × (J.turns log.new ≡ J.turns log.old) }
+    ensures room { IsTrue D.is_modelled → OnOk result (J.put_room log.old (D.seen disk.old) ≤ J.put_room log.new (D.seen disk.new)) }
+    ensures apart { IsErrOf result TurnFault.NoRoom → ⊥ }
     ensures others { KeepsOthers D.Disk J.Journal disk.old disk.new }
     ensures cause { IsErrOf result TurnFault.Disk → Rose (D.faults disk.old) (D.faults disk.new) }
     ensures quiet { ¬ (IsErrOf result TurnFault.Disk) → D.faults disk.new ≡ D.faults disk.old }
@@ -124,13 +130,14 @@ fn put_front<J: Journal, D: Disk>(
     Ok(())
 }
 
-/// Begins the journal anew with the front of the device, in the turn of the next number. Where it fails for want of memory
-/// the journal is as it was.
+/// Begins the journal anew with the front of the device, in the turn of the next number, with room up to this place. Where it
+/// fails for want of memory or where it asks for room, the journal is as it was.
 pub(crate) fn turn<J: Journal, D: Disk>(
     alloc: Global,
     log: &mut J,
     device: &Device,
     disk: &mut D,
+    to: u64,
 ) -> Result<(), TurnFault>
     requires hand { OwnsJournalOn D.Disk J.Journal log.old disk.old (device_view device.now) }
     requires idle { (device_view device.now).pending ≡ None }
@@ -141,13 +148,19 @@ pub(crate) fn turn<J: Journal, D: Disk>(
     ensures number { OnOk result (J.number log.new ≡ J.number log.old + 1) }
     ensures moments { HasLeft D.moment D.left_since disk.old disk.new
         (IsAfter (D.may_leave disk.old) (IsChangeIn J.files (λ c. StandsFor J.entries c (device_view device.now)))) }
+    // The new file of live entries goes on up to the place that was asked for.
+    ensures ready { OnOk result (HasRoomTo D.Disk J.Journal log.new disk.new to) }
     ensures others { KeepsOthers D.Disk J.Journal disk.old disk.new }
     ensures cause { IsErrOf result TurnFault.Disk → Rose (D.faults disk.old) (D.faults disk.new) }
-    ensures quiet { ¬ (IsErrOf result TurnFault.Disk) → D.faults disk.new ≡ D.faults disk.old }
+    ensures room { IsErrOf result TurnFault.NoRoom → Rose (D.faults disk.old) (D.faults disk.new) }
+    ensures quiet { ¬ (IsErrOf result TurnFault.Disk) → ¬ (IsErrOf result TurnFault.NoRoom) → D.faults disk.new ≡ D.faults disk.old }
     ensures later { D.faults disk.old ≤ D.faults disk.new }
 {
     let number = log.number() + 1;
     log.begin_turn(disk)?;
+    let Ok(()) = log.reserve_turn(disk, to) else {
+        return Err(TurnFault::NoRoom);
+    };
     put_front(alloc, log, device, disk, number)?;
     log.end_turn(disk)?;
     Ok(())

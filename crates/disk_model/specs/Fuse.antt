@@ -21,3 +21,7 @@ pub record HasFuse (old new : Fuse) : Type 0 where
 -- the middle between two lengths, rounded up
 abbrev pub middle : ℕ → ℕ → ℕ
 middle old len = (old + len + 1) / 2
+
+-- half of what is asked for beyond this length, rounded down
+abbrev pub half_way : ℕ → ℕ → ℕ
+half_way old to = old + (to - old) / 2

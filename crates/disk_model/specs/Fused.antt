@@ -1,8 +1,8 @@
 -- A disk in memory behind a fuse.
-use Rattle.std.specs.Prelude.{ℕ}
+use Rattle.std.specs.Prelude.{ℕ, Bool, Option}
 use Rattle.disk_model.specs.Disk.{Image}
 use Rattle.disk_model.specs.Fuse.{IsBlown}
-use Rattle.disk_model.specs.Memory.{seen_by, left_by, left_since_by, moment_by, faults_by}
+use Rattle.disk_model.specs.Memory.{seen_by, left_by, left_since_by, moment_by, faults_by, shortages_by, writer_by}
 use Rattle.nuc_base.specs.Faults.{Rose}
 use Rattle.disk_model.specs.declared.fuse.Fuse.{Fuse}
 use Rattle.disk_model.specs.declared.fused.FusedDisk.{FusedDisk}
@@ -20,7 +20,7 @@ fuse_of f = f.fuse
 abbrev pub IsDue : FusedDisk → Type 0
 IsDue f = IsBlown f.fuse
 
--- the disk inside failed by itself, for want of memory
+-- the disk inside failed by itself, for want of memory or of room
 abbrev pub InsideFailed : FusedDisk → FusedDisk → Type 0
 InsideFailed old new = Rose (faults_by (inside old)) (faults_by (inside new))
 
@@ -38,3 +38,9 @@ fused_moment f = moment_by f.disk
 
 abbrev pub fused_faults : FusedDisk → ℕ
 fused_faults f = f.fuse.faults
+
+abbrev pub fused_shortages : FusedDisk → ℕ
+fused_shortages f = shortages_by f.disk
+
+abbrev pub fused_writer : FusedDisk → Option Bool
+fused_writer f = writer_by f.disk

@@ -1,6 +1,7 @@
-ghost use Rattle.std.specs.Prelude.{◌≡◌, ◌+◌, ◌≤◌, ◌++◌, [], min, ℕ, Bool, List, IsTrue, IsErrOf, length, take, drop, IfOk, OnOk};
+ghost use Rattle.std.specs.Prelude.{◌≡◌, ◌+◌, ◌-◌, ◌≤◌, ◌++◌, [], min, ℕ, Bool, List, Option, IsTrue, IsErrOf, length, take, drop, IfOk, OnOk};
+ghost use Rattle.std.specs.Option.{IfSome};
 ghost use Rattle.nuc_base.specs.Faults.{HasCause, Rose};
-ghost use Rattle.disk_model.specs.Disk.{Image, IsPutAt, Torn, Cut, Step, IsAfter, Settled, HasLeft, DiskLaws};
+ghost use Rattle.disk_model.specs.Disk.{Image, IsPutAt, Torn, Cut, Lengthened, Step, IsAfter, Settled, HasLeft, DiskLaws};
 ghost use Rattle.disk_model.specs.Listing.{artifacts, IsListing};
 
 use nuc_base::{FileName, List, NoMemory};
@@ -50,6 +51,8 @@ impl From<NoMemory> for ListFault {
 ///
 /// A call answers its fault where the count of faults rose, and else not. After a fault the file of that call may be changed
 /// in part, within what a crash may leave of the call; every other file is as before.
+///
+/// A write within the length that a file has needs no new room. What may be written later is made sure of by `reserve`.
 pub trait Disk {
     /// Whether the disk tells what its files hold. Where it does not, it has no images.
     ghost is_modelled: { Bool };
@@ -69,11 +72,18 @@ pub trait Disk {
     /// How often the disk has failed.
     ghost faults: { Self → ℕ };
 
+    /// How often it failed for want of room, where it tells that.
+    ghost shortages: { Self → ℕ };
+
+    /// Whether another program holds the lock of the writers, where the disk tells it.
+    ghost writer: { Self → Option Bool };
+
     /// How many bytes the file has.
     fn length(&mut self, file: &str) -> Result<u64, DiskFault>
         ensures told { IsTrue is_modelled → IfOk result (λ n. n ≡ length (seen self.old file.now)) }
         ensures seen { seen self.new ≡ seen self.old }
         ensures moments { HasLeft moment left_since self.old self.new (may_leave self.old) }
+        ensures room { shortages self.new ≡ shortages self.old }
         ensures cause { HasCause (faults self.old) (faults self.new) result }
         ensures quiet { OnOk result (faults self.new ≡ faults self.old) };
 
@@ -85,6 +95,7 @@ pub trait Disk {
             × (into.new ≡ take n (drop at (seen self.old file.now)) ++ drop n into.old)) }
         ensures seen { seen self.new ≡ seen self.old }
         ensures moments { HasLeft moment left_since self.old self.new (may_leave self.old) }
+        ensures room { shortages self.new ≡ shortages self.old }
         ensures cause { HasCause (faults self.old) (faults self.new) result }
         ensures quiet { OnOk result (faults self.new ≡ faults self.old) };
 
@@ -93,6 +104,16 @@ pub trait Disk {
         requires { IsTrue is_modelled → at ≤ length (seen self.old file.now) }
         ensures told { IsTrue is_modelled → Step file.now (λ old new. OnOk result (IsPutAt at bytes.now old new)) (seen self.old) (seen self.new) }
         ensures moments { HasLeft moment left_since self.old self.new (IsAfter (may_leave self.old) (Step file.now (Torn at (length bytes.now)))) }
+        ensures room { at + length bytes.now ≤ length (seen self.old file.now) → shortages self.new ≡ shortages self.old }
+        ensures cause { HasCause (faults self.old) (faults self.new) result }
+        ensures quiet { OnOk result (faults self.new ≡ faults self.old) };
+
+    /// Sees to it that the file goes on up to this place, so that a write up to there needs no new room. What it held stays in
+    /// front; what is added has no meaning. Until a sync, a crash may leave any bytes there, and any length between.
+    fn reserve(&mut self, file: &str, to: u64) -> Result<(), DiskFault>
+        ensures told { IsTrue is_modelled → Step file.now (λ old new. Lengthened to old new × OnOk result (to ≤ length new)) (seen self.old) (seen self.new) }
+        ensures moments { HasLeft moment left_since self.old self.new (IsAfter (may_leave self.old)
+            (Step file.now (Torn (length (seen self.old file.now)) (to - length (seen self.old file.now))))) }
         ensures cause { HasCause (faults self.old) (faults self.new) result }
         ensures quiet { OnOk result (faults self.new ≡ faults self.old) };
 
@@ -101,6 +122,7 @@ pub trait Disk {
         requires { IsTrue is_modelled → len ≤ length (seen self.old file.now) }
         ensures told { IsTrue is_modelled → Step file.now (λ old new. OnOk result (new ≡ take len old)) (seen self.old) (seen self.new) }
         ensures moments { HasLeft moment left_since self.old self.new (IsAfter (may_leave self.old) (Step file.now (Cut len))) }
+        ensures room { shortages self.new ≡ shortages self.old }
         ensures cause { HasCause (faults self.old) (faults self.new) result }
         ensures quiet { OnOk result (faults self.new ≡ faults self.old) };
 
@@ -109,6 +131,7 @@ pub trait Disk {
         ensures durable { OnOk result (Settled (may_leave self.new) file.now (seen self.new file.now)) }
         ensures seen { seen self.new ≡ seen self.old }
         ensures moments { HasLeft moment left_since self.old self.new (may_leave self.old) }
+        ensures room { shortages self.new ≡ shortages self.old }
         ensures cause { HasCause (faults self.old) (faults self.new) result }
         ensures quiet { OnOk result (faults self.new ≡ faults self.old) };
 
@@ -116,6 +139,7 @@ pub trait Disk {
     fn remove(&mut self, file: &str) -> Result<(), DiskFault>
         ensures told { IsTrue is_modelled → Step file.now (λ _ new. OnOk result (new ≡ [])) (seen self.old) (seen self.new) }
         ensures moments { HasLeft moment left_since self.old self.new (IsAfter (may_leave self.old) (Step file.now (Cut 0))) }
+        ensures room { shortages self.new ≡ shortages self.old }
         ensures cause { HasCause (faults self.old) (faults self.new) result }
         ensures quiet { OnOk result (faults self.new ≡ faults self.old) };
 
@@ -124,9 +148,18 @@ pub trait Disk {
         ensures told { IsTrue is_modelled → IfOk result (λ names. IsListing artifacts (seen self.old) names) }
         ensures seen { seen self.new ≡ seen self.old }
         ensures moments { HasLeft moment left_since self.old self.new (may_leave self.old) }
+        ensures room { shortages self.new ≡ shortages self.old }
         ensures cause { IsErrOf result ListFault.Disk → Rose (faults self.old) (faults self.new) }
         ensures later { faults self.old ≤ faults self.new }
         ensures quiet { ¬ (IsErrOf result ListFault.Disk) → faults self.new ≡ faults self.old };
+
+    /// Whether another program holds the lock of the writers. It answers no fault: where that can't be seen, none does.
+    fn has_writer(&mut self) -> bool
+        ensures told { IfSome (writer self.old) (λ writer. result ≡ writer) }
+        ensures seen { seen self.new ≡ seen self.old }
+        ensures moments { HasLeft moment left_since self.old self.new (may_leave self.old) }
+        ensures room { shortages self.new ≡ shortages self.old }
+        ensures quiet { faults self.new ≡ faults self.old };
 
     ghost laws: { DiskLaws is_modelled seen may_leave moment left_since };
 }

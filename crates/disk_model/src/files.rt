@@ -1,6 +1,6 @@
 // Named files in memory.
-ghost use Rattle.std.specs.Prelude.{◌≡◌, ◌≢◌, ◌↔◌, ◌++◌, [], ◌∷◌, ◌<◌, ◌≤◌, ℕ, min, Contains, length, take, drop, slice_index_or, IsTrue, IfOk, OnOk, OnErr};
-ghost use Rattle.disk_model.specs.Files.{contents, image_of};
+ghost use Rattle.std.specs.Prelude.{◌≡◌, ◌≢◌, ◌↔◌, ◌++◌, ◌-◌, ◌^◌, [], ◌∷◌, ◌<◌, ◌≤◌, ℕ, min, Contains, length, take, drop, slice_index_or, IsTrue, IfOk, OnOk, OnErr};
+ghost use Rattle.disk_model.specs.Files.{bytes_of, contents, image_of};
 ghost use Rattle.disk_model.specs.Listing.{IsBelow, IsListing};
 ghost use Rattle.disk_model.specs.Places.{NoneBefore, IsFirst, Rewritten};
 ghost use Rattle.disk_model.specs.Put.{put, overwritten};
@@ -101,6 +101,17 @@ impl Files {
         ensures { IsTrue result ↔ (IsBelow folder.now name.now × (image_of self.now name.now ≢ [])) }
     {
         begins_with(name, folder) && !self.get(name).is_empty()
+    }
+
+    /// How many bytes all files have.
+    pub fn size(&self) -> u64
+        ensures { result ≡ min (bytes_of self.now) (2 ^ 64 - 1) }
+    {
+        let mut size = 0u64;
+        for file in &self.files {
+            size = size.saturating_add(file.bytes.len() as u64);
+        }
+        size
     }
 
     /// The same files again.

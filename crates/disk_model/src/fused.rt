@@ -1,10 +1,11 @@
 // A disk that stops after so many calls, and fails those that it was told to fail.
-ghost use Rattle.std.specs.Prelude.{◌≡◌, ◌⊎◌, ◌++◌, [], ◌≤◌, ◌/◌, ℕ, min, true, length, take, drop, IsErr, IfOk, OnOk, OnErr, IsErrOf};
+ghost use Rattle.std.specs.Option.{IfSome};
+ghost use Rattle.std.specs.Prelude.{◌≡◌, ◌⊎◌, ◌++◌, [], ◌+◌, ◌-◌, ◌≤◌, ◌/◌, ℕ, min, true, length, take, drop, IsErr, IfOk, OnOk, OnErr, IsErrOf};
 ghost use Rattle.nuc_base.specs.Faults.{HasCause, Rose};
 
 use crate::disk::{Disk, DiskFault, ListFault};
 use crate::fuse::Fuse;
-use crate::half::cut_half;
+use crate::half::{cut_half, reserve_half};
 use crate::memory::MemoryDisk;
 use nuc_base::{FileName, List};
 use std::alloc::Global;
@@ -12,8 +13,8 @@ use std::alloc::Global;
 /// A disk in memory that fails the calls that it was told to fail, and all from one on. Calls are counted from 0.
 ///
 /// A failing write writes the first half of its bytes, rounded down. A failing cut or removal cuts the file to the
-/// middle between its old length and the asked one, rounded up; for a removal the asked one is 0. Nothing of this is
-/// stable.
+/// middle between its old length and the asked one, rounded up; for a removal the asked one is 0. A failing call for room
+/// makes half of what is missing, rounded down. Nothing of this is stable. The question for a writer is not counted.
 #[derive(Drop)]
 pub struct FusedDisk {
     disk: MemoryDisk,
@@ -48,12 +49,12 @@ impl FusedDisk {
 }
 
 impl Disk for FusedDisk {
-    ghost use Rattle.disk_model.specs.Disk.{IsPutAt, Torn, Cut, Step, IsAfter, Settled, HasLeft};
-    ghost use Rattle.disk_model.specs.Fuse.{IsCounted, middle};
-    ghost use Rattle.disk_model.specs.Fused.{inside, fuse_of, IsDue, InsideFailed, fused_seen, fused_left, fused_left_since, fused_moment, fused_faults};
+    ghost use Rattle.disk_model.specs.Disk.{IsPutAt, Torn, Cut, Lengthened, Step, IsAfter, Settled, HasLeft};
+    ghost use Rattle.disk_model.specs.Fuse.{IsCounted, half_way, middle};
+    ghost use Rattle.disk_model.specs.Fused.{inside, fuse_of, IsDue, InsideFailed, fused_seen, fused_left, fused_left_since, fused_moment, fused_faults, fused_shortages, fused_writer};
     ghost use Rattle.disk_model.specs.Laws.Inside.{laws_inside};
     ghost use Rattle.disk_model.specs.Listing.{artifacts, IsListing};
-    ghost use Rattle.disk_model.specs.Memory.{Changed, Stable};
+    ghost use Rattle.disk_model.specs.Memory.{Changed, Stable, IsZeroedTo};
     ghost use Rattle.disk_model.specs.Laws.MemoryLaws.{memory_laws};
 
     ghost is_modelled = { true };
@@ -68,6 +69,10 @@ impl Disk for FusedDisk {
 
     ghost faults = { fused_faults };
 
+    ghost shortages = { fused_shortages };
+
+    ghost writer = { fused_writer };
+
     ghost laws = { laws_inside inside memory_laws };
 
     fn length(&mut self, file: &str) -> Result<u64, DiskFault>
@@ -78,6 +83,7 @@ impl Disk for FusedDisk {
         ensures told { IfOk result (λ n. n ≡ length (fused_seen self.old file.now)) }
         ensures seen { fused_seen self.new ≡ fused_seen self.old }
         ensures moments { HasLeft fused_moment fused_left_since self.old self.new (fused_left self.old) }
+        ensures room { fused_shortages self.new ≡ fused_shortages self.old }
         ensures cause { HasCause (fused_faults self.old) (fused_faults self.new) result }
         ensures quiet { OnOk result (fused_faults self.new ≡ fused_faults self.old) }
     {
@@ -99,6 +105,7 @@ impl Disk for FusedDisk {
         ensures untouched { OnErr result (into.new ≡ into.old) }
         ensures seen { fused_seen self.new ≡ fused_seen self.old }
         ensures moments { HasLeft fused_moment fused_left_since self.old self.new (fused_left self.old) }
+        ensures room { fused_shortages self.new ≡ fused_shortages self.old }
         ensures cause { HasCause (fused_faults self.old) (fused_faults self.new) result }
         ensures quiet { OnOk result (fused_faults self.new ≡ fused_faults self.old) }
     {
@@ -119,6 +126,7 @@ impl Disk for FusedDisk {
             Changed file.now (IsPutAt at (take (length bytes.now / 2) bytes.now)) (Torn at (length bytes.now / 2)) (inside self.old) (inside self.new) }
         ensures told { Step file.now (λ old new. OnOk result (IsPutAt at bytes.now old new)) (fused_seen self.old) (fused_seen self.new) }
         ensures moments { HasLeft fused_moment fused_left_since self.old self.new (IsAfter (fused_left self.old) (Step file.now (Torn at (length bytes.now)))) }
+        ensures room { at + length bytes.now ≤ length (fused_seen self.old file.now) → fused_shortages self.new ≡ fused_shortages self.old }
         ensures cause { HasCause (fused_faults self.old) (fused_faults self.new) result }
         ensures quiet { OnOk result (fused_faults self.new ≡ fused_faults self.old) }
     {
@@ -127,6 +135,27 @@ impl Disk for FusedDisk {
             return Err(self.fuse.fault());
         }
         self.fuse.pass(self.disk.write_at(file, at, bytes))
+    }
+
+    fn reserve(&mut self, file: &str, to: u64) -> Result<(), DiskFault>
+        ensures due { IsDue self.old → IsErr result }
+        ensures only { OnErr result (IsDue self.old ⊎ InsideFailed self.old self.new) }
+        ensures counted { IsCounted (fuse_of self.old) (fuse_of self.new) }
+        ensures ok { OnOk result (Step file.now (IsZeroedTo to) (fused_seen self.old) (fused_seen self.new)) }
+        // A failing one makes half of the room that is missing, and nothing of that is stable.
+        ensures half { IsDue self.old → ¬ (InsideFailed self.old self.new) →
+            Step file.now (IsZeroedTo (half_way (length (fused_seen self.old file.now)) to)) (fused_seen self.old) (fused_seen self.new) }
+        ensures told { Step file.now (λ old new. Lengthened to old new × OnOk result (to ≤ length new)) (fused_seen self.old) (fused_seen self.new) }
+        ensures moments { HasLeft fused_moment fused_left_since self.old self.new (IsAfter (fused_left self.old)
+            (Step file.now (Torn (length (fused_seen self.old file.now)) (to - length (fused_seen self.old file.now))))) }
+        ensures cause { HasCause (fused_faults self.old) (fused_faults self.new) result }
+        ensures quiet { OnOk result (fused_faults self.new ≡ fused_faults self.old) }
+    {
+        if self.fuse.blows() {
+            let _half = reserve_half(&mut self.disk, file, to);
+            return Err(self.fuse.fault());
+        }
+        self.fuse.pass(self.disk.reserve(file, to))
     }
 
     fn cut(&mut self, file: &str, len: u64) -> Result<(), DiskFault>
@@ -140,6 +169,7 @@ impl Disk for FusedDisk {
             Changed file.now (λ old new. new ≡ take reached old) (Cut reached) (inside self.old) (inside self.new) }
         ensures told { Step file.now (λ old new. OnOk result (new ≡ take len old)) (fused_seen self.old) (fused_seen self.new) }
         ensures moments { HasLeft fused_moment fused_left_since self.old self.new (IsAfter (fused_left self.old) (Step file.now (Cut len))) }
+        ensures room { fused_shortages self.new ≡ fused_shortages self.old }
         ensures cause { HasCause (fused_faults self.old) (fused_faults self.new) result }
         ensures quiet { OnOk result (fused_faults self.new ≡ fused_faults self.old) }
     {
@@ -159,6 +189,7 @@ impl Disk for FusedDisk {
         ensures durable { OnOk result (Settled (fused_left self.new) file.now (fused_seen self.new file.now)) }
         ensures seen { fused_seen self.new ≡ fused_seen self.old }
         ensures moments { HasLeft fused_moment fused_left_since self.old self.new (fused_left self.old) }
+        ensures room { fused_shortages self.new ≡ fused_shortages self.old }
         ensures cause { HasCause (fused_faults self.old) (fused_faults self.new) result }
         ensures quiet { OnOk result (fused_faults self.new ≡ fused_faults self.old) }
     {
@@ -178,6 +209,7 @@ impl Disk for FusedDisk {
             Changed file.now (λ old new. new ≡ take reached old) (Cut reached) (inside self.old) (inside self.new) }
         ensures told { Step file.now (λ _ new. OnOk result (new ≡ [])) (fused_seen self.old) (fused_seen self.new) }
         ensures moments { HasLeft fused_moment fused_left_since self.old self.new (IsAfter (fused_left self.old) (Step file.now (Cut 0))) }
+        ensures room { fused_shortages self.new ≡ fused_shortages self.old }
         ensures cause { HasCause (fused_faults self.old) (fused_faults self.new) result }
         ensures quiet { OnOk result (fused_faults self.new ≡ fused_faults self.old) }
     {
@@ -196,6 +228,7 @@ impl Disk for FusedDisk {
         ensures told { IfOk result (λ names. IsListing artifacts (fused_seen self.old) names) }
         ensures seen { fused_seen self.new ≡ fused_seen self.old }
         ensures moments { HasLeft fused_moment fused_left_since self.old self.new (fused_left self.old) }
+        ensures room { fused_shortages self.new ≡ fused_shortages self.old }
         ensures cause { IsErrOf result ListFault.Disk → Rose (fused_faults self.old) (fused_faults self.new) }
         ensures later { fused_faults self.old ≤ fused_faults self.new }
         ensures quiet { ¬ (IsErrOf result ListFault.Disk) → fused_faults self.new ≡ fused_faults self.old }
@@ -204,5 +237,16 @@ impl Disk for FusedDisk {
             return Err(self.fuse.fault().into());
         }
         self.disk.list(alloc)
+    }
+
+    fn has_writer(&mut self) -> bool
+        ensures told { IfSome (fused_writer self.old) (λ writer. result ≡ writer) }
+        ensures same { self.new ≡ self.old }
+        ensures seen { fused_seen self.new ≡ fused_seen self.old }
+        ensures moments { HasLeft fused_moment fused_left_since self.old self.new (fused_left self.old) }
+        ensures room { fused_shortages self.new ≡ fused_shortages self.old }
+        ensures quiet { fused_faults self.new ≡ fused_faults self.old }
+    {
+        self.disk.has_writer()
     }
 }

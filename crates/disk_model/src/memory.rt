@@ -1,8 +1,9 @@
 // A disk in memory. It keeps a record of its calls, so that it can answer for every moment.
-ghost use Rattle.std.specs.Prelude.{◌≡◌, ◌++◌, [], ◌∷◌, ◌<◌, ◌≤◌, ℕ, min, true, List, length, take, drop, IsOk, IfOk, OnOk, OnErr, IsErrOf, is_ok};
+ghost use Rattle.std.specs.Prelude.{◌≡◌, ◌↔◌, ◌++◌, [], ◌∷◌, ◌<◌, ◌+◌, ◌-◌, ◌≤◌, ℕ, min, true, IsTrue, List, Some, length, replicate, take, drop, ◌^◌, IsOk, IsErr, IfOk, OnOk, OnErr, IsErrOf, is_ok};
+ghost use Rattle.std.specs.Option.{IfSome};
 ghost use Rattle.disk_model.specs.Files.{image_of};
 ghost use Rattle.disk_model.specs.Record.{Recorded, Kept, seen_after};
-ghost use Rattle.nuc_base.specs.Faults.{HasCause};
+ghost use Rattle.nuc_base.specs.Faults.{HasCause, Rose};
 
 use crate::disk::{Disk, DiskFault, ListFault};
 use crate::files::Files;
@@ -11,7 +12,8 @@ use crate::record::Call;
 use nuc_base::{Bytes, FileName, List, NoMemory};
 use std::alloc::Global;
 
-/// A disk in memory, which tells everything. It fails only for want of memory, and counts that.
+/// A disk in memory, which tells everything. It fails only for want of memory, or of room where it was made with so much,
+/// and counts that.
 ///
 /// It keeps a record of every call that changed a file or made it stable. A crash may leave, of each file, what the
 /// calls since its last `sync` allow: see `MemoryDisk::image`.
@@ -22,13 +24,17 @@ pub struct MemoryDisk {
     files: Files,
     calls: Vec<Call>,
     faults: u64,
+    /// How many bytes all files together may have.
+    room: u64,
+    shortages: u64,
+    has_writer: bool,
     ghost cached: { (name : List ℕ) → image_of files name ≡ seen_after calls.items (image_of start) name },
 }
 
 impl MemoryDisk {
     ghost use Rattle.disk_model.specs.Disk.{Settled};
     ghost use Rattle.disk_model.specs.Images.{picked_by};
-    ghost use Rattle.disk_model.specs.Memory.{seen_by, left_by, faults_by};
+    ghost use Rattle.disk_model.specs.Memory.{seen_by, left_by, faults_by, shortages_by, room_by, used_by, writer_by, HasRoomTo, Unchanged};
 
     /// A disk without files.
     pub fn new(alloc: Global) -> MemoryDisk
@@ -42,7 +48,37 @@ impl MemoryDisk {
             files: Files::new(alloc),
             calls: Vec::new(alloc),
             faults: 0,
+            room: u64::MAX,
+            shortages: 0,
+            has_writer: false,
         }
+    }
+
+    /// The disk with room for so many bytes of all files together. It fails where a write would take more.
+    pub fn with_room(self, room: u64) -> MemoryDisk
+        ensures same { Unchanged self result }
+        ensures room { room_by result ≡ room }
+        ensures faults { faults_by result ≡ faults_by self }
+    {
+        let mut disk = self;
+        disk.room = room;
+        disk
+    }
+
+    /// From now on another program holds the lock of the writers, or none.
+    pub fn set_writer(&mut self, has_writer: bool)
+        ensures same { Unchanged self.old self.new }
+        ensures writer { writer_by self.new ≡ Some has_writer }
+        ensures faults { faults_by self.new ≡ faults_by self.old }
+    {
+        self.has_writer = has_writer;
+    }
+
+    /// How many bytes all files together have.
+    pub fn used(&self) -> u64
+        ensures { result ≡ min (used_by self.now) (2 ^ 64 - 1) }
+    {
+        self.files.size()
     }
 
     /// A disk that holds these files, all of them stable.
@@ -57,6 +93,9 @@ impl MemoryDisk {
             files,
             calls: Vec::new(alloc),
             faults: 0,
+            room: u64::MAX,
+            shortages: 0,
+            has_writer: false,
         })
     }
 
@@ -79,6 +118,16 @@ impl MemoryDisk {
         MemoryDisk::holding(alloc, replay(alloc, &self.start, &self.calls, fill)?)
     }
 
+    /// Whether there is room to write these bytes at that place of the file.
+    fn has_room_for(&self, file: &str, at: u64, bytes: &[u8]) -> bool
+        requires { at ≤ length (seen_by self.now file.now) }
+        ensures { IsTrue result ↔ HasRoomTo self.now file.now (at + length bytes.now) }
+    {
+        let length = self.file(file).len() as u64;
+        let end = at + bytes.len() as u64;
+        end <= length || self.used().saturating_add(end - length) <= self.room
+    }
+
     /// What the file of this name reads as.
     pub fn file(&self, name: &str) -> &[u8]
         ensures { result.now ≡ seen_by self.now name.now }
@@ -88,9 +137,9 @@ impl MemoryDisk {
 }
 
 impl Disk for MemoryDisk {
-    ghost use Rattle.disk_model.specs.Disk.{IsPutAt, Torn, Cut, Step, IsAfter, Settled, HasLeft};
+    ghost use Rattle.disk_model.specs.Disk.{IsPutAt, Torn, Cut, Lengthened, Step, IsAfter, Settled, HasLeft};
     ghost use Rattle.disk_model.specs.Listing.{artifacts, IsListing};
-    ghost use Rattle.disk_model.specs.Memory.{seen_by, left_by, left_since_by, moment_by, faults_by, Changed, Stable, Unchanged};
+    ghost use Rattle.disk_model.specs.Memory.{seen_by, left_by, left_since_by, moment_by, faults_by, shortages_by, writer_by, Changed, Stable, Unchanged, HasRoomTo, IsZeroedTo};
     ghost use Rattle.disk_model.specs.Laws.MemoryLaws.{memory_laws};
 
     ghost is_modelled = { true };
@@ -105,6 +154,10 @@ impl Disk for MemoryDisk {
 
     ghost faults = { faults_by };
 
+    ghost shortages = { shortages_by };
+
+    ghost writer = { writer_by };
+
     ghost laws = { memory_laws };
 
     fn length(&mut self, file: &str) -> Result<u64, DiskFault>
@@ -113,6 +166,7 @@ impl Disk for MemoryDisk {
         ensures told { IfOk result (λ n. n ≡ length (seen_by self.old file.now)) }
         ensures seen { seen_by self.new ≡ seen_by self.old }
         ensures moments { HasLeft moment_by left_since_by self.old self.new (left_by self.old) }
+        ensures room { shortages_by self.new ≡ shortages_by self.old }
         ensures cause { HasCause (faults_by self.old) (faults_by self.new) result }
         ensures quiet { OnOk result (faults_by self.new ≡ faults_by self.old) }
     {
@@ -128,6 +182,7 @@ impl Disk for MemoryDisk {
             × (into.new ≡ take n (drop at (seen_by self.old file.now)) ++ drop n into.old)) }
         ensures seen { seen_by self.new ≡ seen_by self.old }
         ensures moments { HasLeft moment_by left_since_by self.old self.new (left_by self.old) }
+        ensures room { shortages_by self.new ≡ shortages_by self.old }
         ensures cause { HasCause (faults_by self.old) (faults_by self.new) result }
         ensures quiet { OnOk result (faults_by self.new ≡ faults_by self.old) }
     {
@@ -147,9 +202,17 @@ impl Disk for MemoryDisk {
         ensures err { OnErr result (Unchanged self.old self.new) }
         ensures told { Step file.now (λ old new. OnOk result (IsPutAt at bytes.now old new)) (seen_by self.old) (seen_by self.new) }
         ensures moments { HasLeft moment_by left_since_by self.old self.new (IsAfter (left_by self.old) (Step file.now (Torn at (length bytes.now)))) }
+        ensures room { at + length bytes.now ≤ length (seen_by self.old file.now) → shortages_by self.new ≡ shortages_by self.old }
+        // It runs short exactly where it would go beyond its room.
+        ensures fits { HasRoomTo self.old file.now (at + length bytes.now) → shortages_by self.new ≡ shortages_by self.old }
+        ensures short { ¬ (HasRoomTo self.old file.now (at + length bytes.now)) → IsErr result × Rose (shortages_by self.old) (shortages_by self.new) }
         ensures cause { HasCause (faults_by self.old) (faults_by self.new) result }
         ensures quiet { OnOk result (faults_by self.new ≡ faults_by self.old) }
     {
+        if !self.has_room_for(file, at, bytes) {
+            self.shortages = self.shortages.saturating_add(1);
+            return counted(Err(NoMemory), &mut self.faults);
+        }
         let done = write(
             self.alloc,
             &mut self.files,
@@ -161,11 +224,31 @@ impl Disk for MemoryDisk {
         counted(done, &mut self.faults)
     }
 
+    fn reserve(&mut self, file: &str, to: u64) -> Result<(), DiskFault>
+        ensures ok { OnOk result (Step file.now (IsZeroedTo to) (seen_by self.old) (seen_by self.new)) }
+        ensures err { OnErr result (Unchanged self.old self.new) }
+        ensures told { Step file.now (λ old new. Lengthened to old new × OnOk result (to ≤ length new)) (seen_by self.old) (seen_by self.new) }
+        ensures moments { HasLeft moment_by left_since_by self.old self.new (IsAfter (left_by self.old)
+            (Step file.now (Torn (length (seen_by self.old file.now)) (to - length (seen_by self.old file.now))))) }
+        ensures cause { HasCause (faults_by self.old) (faults_by self.new) result }
+        ensures quiet { OnOk result (faults_by self.new ≡ faults_by self.old) }
+    {
+        let length = self.file(file).len() as u64;
+        if to <= length {
+            return Ok(());
+        }
+        match zeros(self.alloc, (to - length) as usize) {
+            Ok(zeros) => self.write_at(file, length, &zeros),
+            Err(refused) => counted(Err(refused), &mut self.faults),
+        }
+    }
+
     fn cut(&mut self, file: &str, len: u64) -> Result<(), DiskFault>
         ensures ok { OnOk result (Changed file.now (λ old new. new ≡ take len old) (Cut len) self.old self.new) }
         ensures err { OnErr result (Unchanged self.old self.new) }
         ensures told { Step file.now (λ old new. OnOk result (new ≡ take len old)) (seen_by self.old) (seen_by self.new) }
         ensures moments { HasLeft moment_by left_since_by self.old self.new (IsAfter (left_by self.old) (Step file.now (Cut len))) }
+        ensures room { shortages_by self.new ≡ shortages_by self.old }
         ensures cause { HasCause (faults_by self.old) (faults_by self.new) result }
         ensures quiet { OnOk result (faults_by self.new ≡ faults_by self.old) }
     {
@@ -185,6 +268,7 @@ impl Disk for MemoryDisk {
         ensures durable { OnOk result (Settled (left_by self.new) file.now (seen_by self.new file.now)) }
         ensures seen { seen_by self.new ≡ seen_by self.old }
         ensures moments { HasLeft moment_by left_since_by self.old self.new (left_by self.old) }
+        ensures room { shortages_by self.new ≡ shortages_by self.old }
         ensures cause { HasCause (faults_by self.old) (faults_by self.new) result }
         ensures quiet { OnOk result (faults_by self.new ≡ faults_by self.old) }
     {
@@ -197,6 +281,7 @@ impl Disk for MemoryDisk {
         ensures err { OnErr result (Unchanged self.old self.new) }
         ensures told { Step file.now (λ _ new. OnOk result (new ≡ [])) (seen_by self.old) (seen_by self.new) }
         ensures moments { HasLeft moment_by left_since_by self.old self.new (IsAfter (left_by self.old) (Step file.now (Cut 0))) }
+        ensures room { shortages_by self.new ≡ shortages_by self.old }
         ensures cause { HasCause (faults_by self.old) (faults_by self.new) result }
         ensures quiet { OnOk result (faults_by self.new ≡ faults_by self.old) }
     {
@@ -210,15 +295,34 @@ impl Disk for MemoryDisk {
         ensures told { IfOk result (λ names. IsListing artifacts (seen_by self.old) names) }
         ensures seen { seen_by self.new ≡ seen_by self.old }
         ensures moments { HasLeft moment_by left_since_by self.old self.new (left_by self.old) }
+        ensures room { shortages_by self.new ≡ shortages_by self.old }
         ensures later { faults_by self.old ≤ faults_by self.new }
         ensures quiet { ¬ (IsErrOf result ListFault.Disk) → faults_by self.new ≡ faults_by self.old }
     {
         Ok(self.files.listed(alloc, ARTIFACTS)?)
     }
+
+    fn has_writer(&mut self) -> bool
+        ensures told { IfSome (writer_by self.old) (λ writer. result ≡ writer) }
+        ensures same { self.new ≡ self.old }
+        ensures seen { seen_by self.new ≡ seen_by self.old }
+        ensures moments { HasLeft moment_by left_since_by self.old self.new (left_by self.old) }
+        ensures room { shortages_by self.new ≡ shortages_by self.old }
+        ensures quiet { faults_by self.new ≡ faults_by self.old }
+    {
+        self.has_writer
+    }
 }
 
 /// The folder of the artifacts.
 const ARTIFACTS: &str = "packages/artifacts/";
+
+/// So many zeros.
+fn zeros(alloc: Global, count: usize) -> Result<Vec<u8>, NoMemory>
+    ensures { IfOk result (λ zeros. zeros.items ≡ replicate count 0) }
+{
+    Ok(vec![in alloc; 0u8; count]?)
+}
 
 /// Writes, and records it.
 fn write(

@@ -19,7 +19,9 @@ use std::alloc::Global;
 /// entries of before, or these with the new one, or those that were put in their place.
 ///
 /// A journal that turns keeps a second place for its entries: there it can put other entries and then let them take the
-/// place of the live ones at once. At one that does not turn these three calls do nothing.
+/// place of the live ones at once. At one that does not turn the calls of a turn do nothing.
+///
+/// What is added within the room that a file has needs no new room. `reserve` and `reserve_turn` make it.
 pub trait Journal {
     /// The files that are its own.
     ghost files: { List ℕ → Type 0 };
@@ -44,6 +46,12 @@ pub trait Journal {
 
     /// The place of the closed gate behind the entries that were put.
     ghost put_end: { Self → ℕ };
+
+    /// Up to which place the file of the live entries goes.
+    ghost room: { Self → Image → ℕ };
+
+    /// Up to which place the file goes in which others are put.
+    ghost put_room: { Self → Image → ℕ };
 
     /// How often it turned since its store was made.
     ghost number: { Self → ℕ };
@@ -91,9 +99,25 @@ pub trait Journal {
         ensures others { IsTrue D.is_modelled → (name : List ℕ) → ¬ (files name) → D.seen disk.new name ≡ D.seen disk.old name }
         ensures full { (at : ℕ) → IsErrOf result (AppendFault.Full at) ↔ ((at ≡ end self.old) × (most_file < end self.old + 6 + length payload.now)) }
         ensures untouched { most_file < end self.old + 6 + length payload.now → (disk.new ≡ disk.old) × (self.new ≡ self.old) }
+        // Within the room that there is it does not fail for want of room, and leaves it.
+        ensures fits { IsTrue D.is_modelled → end self.old + 6 + length payload.now ≤ room self.old (D.seen disk.old) →
+            D.shortages disk.new ≡ D.shortages disk.old }
+        ensures room { IsTrue D.is_modelled → OnOk result (room self.old (D.seen disk.old) ≤ room self.new (D.seen disk.new)) }
         ensures cause { IsErrOf result AppendFault.Disk → Rose (D.faults disk.old) (D.faults disk.new) }
         ensures quiet { ¬ (IsErrOf result AppendFault.Disk) → D.faults disk.new ≡ D.faults disk.old }
         ensures later { D.faults disk.old ≤ D.faults disk.new };
+
+    /// Sees to it that entries can be added up to this place without new room. Where it fails the journal stands as before.
+    fn reserve<D: Disk>(&self, disk: &mut D, to: u64) -> Result<(), DiskFault>
+        requires open { (payloads : List (List ℕ)) × IsBehind D.may_leave stands self.now disk.old payloads }
+        ensures any_moment { (payloads : List (List ℕ)) → IsBehind D.may_leave stands self.now disk.old payloads →
+            HasLeft D.moment D.left_since disk.old disk.new (IsAfter (D.may_leave disk.old) (IsChangeIn files (λ c. entries c payloads))) }
+        ensures stays { (payloads : List (List ℕ)) → IsBehind D.may_leave stands self.now disk.old payloads →
+            IsBehind D.may_leave stands self.now disk.new payloads }
+        ensures room { IsTrue D.is_modelled → OnOk result (to ≤ room self.now (D.seen disk.new)) }
+        ensures others { IsTrue D.is_modelled → (name : List ℕ) → ¬ (files name) → D.seen disk.new name ≡ D.seen disk.old name }
+        ensures cause { HasCause (D.faults disk.old) (D.faults disk.new) result }
+        ensures quiet { OnOk result (D.faults disk.new ≡ D.faults disk.old) };
 
     /// The payload of the live entry at this place, and the place behind it.
     fn entry<D: Disk>(
@@ -137,6 +161,22 @@ pub trait Journal {
         ensures cause { HasCause (D.faults disk.old) (D.faults disk.new) result }
         ensures quiet { OnOk result (D.faults disk.new ≡ D.faults disk.old) };
 
+    /// Sees to it that entries can be put, and added once they are the live ones, up to this place without new room. The live
+    /// ones stay, and those that were put, also where it fails.
+    fn reserve_turn<D: Disk>(&self, disk: &mut D, to: u64) -> Result<(), DiskFault>
+        requires open { (payloads : List (List ℕ)) × IsBehind D.may_leave stands self.now disk.old payloads }
+        requires begun { IsTrue (turns self.now) → (more : List (List ℕ)) × IsPut D.is_modelled D.seen put_there self.now disk.old more }
+        ensures any_moment { (payloads : List (List ℕ)) → IsBehind D.may_leave stands self.now disk.old payloads →
+            HasLeft D.moment D.left_since disk.old disk.new (IsAfter (D.may_leave disk.old) (IsChangeIn files (λ c. entries c payloads))) }
+        ensures stays { (payloads : List (List ℕ)) → IsBehind D.may_leave stands self.now disk.old payloads →
+            IsBehind D.may_leave stands self.now disk.new payloads }
+        ensures is_put { (more : List (List ℕ)) → IsTrue (turns self.now) → IsPut D.is_modelled D.seen put_there self.now disk.old more →
+            IsPut D.is_modelled D.seen put_there self.now disk.new more }
+        ensures room { IsTrue D.is_modelled → IsTrue (turns self.now) → OnOk result (to ≤ put_room self.now (D.seen disk.new)) }
+        ensures others { IsTrue D.is_modelled → (name : List ℕ) → ¬ (files name) → D.seen disk.new name ≡ D.seen disk.old name }
+        ensures cause { HasCause (D.faults disk.old) (D.faults disk.new) result }
+        ensures quiet { OnOk result (D.faults disk.new ≡ D.faults disk.old) };
+
     /// Puts one more entry behind those that were put. The live ones stay.
     fn put<D: Disk>(&mut self, disk: &mut D, payload: &[u8]) -> Result<(), DiskFault>
         requires open { (payloads : List (List ℕ)) × IsBehind D.may_leave stands self.old disk.old payloads }
@@ -152,6 +192,7 @@ pub trait Journal {
         ensures is_put { (more : List (List ℕ)) → IsTrue (turns self.old) → IsPut D.is_modelled D.seen put_there self.old disk.old more →
             OnOk result ((put_end self.new ≡ put_end self.old + 5 + length payload.now)
             × IsPut D.is_modelled D.seen put_there self.new disk.new (more ++ payload.now ∷ [])) }
+        ensures room { IsTrue D.is_modelled → OnOk result (put_room self.old (D.seen disk.old) ≤ put_room self.new (D.seen disk.new)) }
         ensures others { IsTrue D.is_modelled → (name : List ℕ) → ¬ (files name) → D.seen disk.new name ≡ D.seen disk.old name }
         ensures cause { HasCause (D.faults disk.old) (D.faults disk.new) result }
         ensures quiet { OnOk result (D.faults disk.new ≡ D.faults disk.old) };
@@ -166,6 +207,8 @@ pub trait Journal {
             HasLeft D.moment D.left_since disk.old disk.new (IsAfter (D.may_leave disk.old) (IsChangeIn files (BeforeOrPut entries payloads more))) }
         ensures turned { (more : List (List ℕ)) → IsTrue (turns self.old) → IsPut D.is_modelled D.seen put_there self.old disk.old more →
             OnOk result ((number self.new ≡ number self.old + 1) × (end self.new ≡ put_end self.old) × IsBehind D.may_leave stands self.new disk.new more) }
+        ensures room { IsTrue D.is_modelled → IsTrue (turns self.old) →
+            OnOk result (put_room self.old (D.seen disk.old) ≤ room self.new (D.seen disk.new)) }
         ensures others { IsTrue D.is_modelled → (name : List ℕ) → ¬ (files name) → D.seen disk.new name ≡ D.seen disk.old name }
         ensures cause { HasCause (D.faults disk.old) (D.faults disk.new) result }
         ensures quiet { OnOk result (D.faults disk.new ≡ D.faults disk.old) };
@@ -176,6 +219,7 @@ pub trait Journal {
 
 impl Journal for Log {
     ghost use Rattle.std.specs.Prelude.{false};
+    ghost use Rattle.gate_log.specs.Entries.{journal};
     ghost use Rattle.gate_log.specs.Journal.{log_files, log_entries, log_none, log_stands, log_damaged};
     ghost use Rattle.gate_log.specs.Laws.{log_laws};
 
@@ -195,6 +239,10 @@ impl Journal for Log {
 
     ghost put_end = { λ log. 0 };
 
+    ghost room = { λ log image. length (image journal) };
+
+    ghost put_room = { λ log image. 0 };
+
     ghost number = { λ log. 0 };
 
     ghost turns = { λ log. false };
@@ -211,6 +259,10 @@ impl Journal for Log {
 
     fn append<D: Disk>(&mut self, disk: &mut D, payload: &[u8]) -> Result<(), AppendFault> {
         self.append_in(disk, JOURNAL, payload)
+    }
+
+    fn reserve<D: Disk>(&self, disk: &mut D, to: u64) -> Result<(), DiskFault> {
+        self.reserve_in(disk, JOURNAL, to)
     }
 
     fn entry<D: Disk>(
@@ -235,6 +287,10 @@ impl Journal for Log {
     }
 
     fn begin_turn<D: Disk>(&mut self, _disk: &mut D) -> Result<(), DiskFault> {
+        Ok(())
+    }
+
+    fn reserve_turn<D: Disk>(&self, _disk: &mut D, _to: u64) -> Result<(), DiskFault> {
         Ok(())
     }
 

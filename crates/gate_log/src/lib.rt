@@ -13,6 +13,7 @@ mod entry;
 mod find;
 mod journal;
 mod log;
+mod reserve;
 
 pub use entry::EntryFault;
 pub use find::{FindFault, length_in};

@@ -50,6 +50,8 @@ fn stage<D: Disk>(disk: &mut D, file: &str, end: u64, payload: &[u8]) -> Result<
     ensures durable { OnOk result (Settled (D.may_leave disk.new) file.now (D.seen disk.new file.now)) }
     ensures moments { HasLeft D.moment D.left_since disk.old disk.new
         (IsAfter (D.may_leave disk.old) (Step file.now (λ old new. take (end + 1) new ≡ take (end + 1) old))) }
+    ensures fits { IsTrue D.is_modelled → end + 6 + length payload.now ≤ length (D.seen disk.old file.now) → D.shortages disk.new ≡ D.shortages disk.old }
+    ensures longer { IsTrue D.is_modelled → OnOk result (length (D.seen disk.old file.now) ≤ length (D.seen disk.new file.now)) }
     ensures cause { HasCause (D.faults disk.old) (D.faults disk.new) result }
     ensures quiet { OnOk result (D.faults disk.new ≡ D.faults disk.old) }
 {
@@ -66,6 +68,8 @@ pub fn open_gate<D: Disk>(disk: &mut D, file: &str, end: u64) -> Result<(), Disk
     ensures written { IsTrue D.is_modelled → Step file.now (λ old new. OnOk result (IsPutAt end (1 ∷ []) old new)) (D.seen disk.old) (D.seen disk.new) }
     ensures durable { OnOk result (Settled (D.may_leave disk.new) file.now (D.seen disk.new file.now)) }
     ensures moments { HasLeft D.moment D.left_since disk.old disk.new (IsAfter (D.may_leave disk.old) (Step file.now (Torn end 1))) }
+    ensures fits { end + 1 ≤ length (D.seen disk.old file.now) → D.shortages disk.new ≡ D.shortages disk.old }
+    ensures longer { IsTrue D.is_modelled → OnOk result (length (D.seen disk.old file.now) ≤ length (D.seen disk.new file.now)) }
     ensures cause { HasCause (D.faults disk.old) (D.faults disk.new) result }
     ensures quiet { OnOk result (D.faults disk.new ≡ D.faults disk.old) }
 {
@@ -98,6 +102,10 @@ impl Log {
         ensures others { IsTrue D.is_modelled → (name : List ℕ) → name ≢ file.now → D.seen disk.new name ≡ D.seen disk.old name }
         ensures full { (end : ℕ) → IsErrOf result (AppendFault.Full end) ↔ ((end ≡ self.old.end) × (most_file < self.old.end + 6 + length payload.now)) }
         ensures untouched { most_file < self.old.end + 6 + length payload.now → (disk.new ≡ disk.old) × (self.new ≡ self.old) }
+        // Within the length that the file has it does not fail for want of room.
+        ensures fits { IsTrue D.is_modelled → self.old.end + 6 + length payload.now ≤ length (D.seen disk.old file.now) →
+            D.shortages disk.new ≡ D.shortages disk.old }
+        ensures longer { IsTrue D.is_modelled → OnOk result (length (D.seen disk.old file.now) ≤ length (D.seen disk.new file.now)) }
         ensures cause { IsErrOf result AppendFault.Disk → Rose (D.faults disk.old) (D.faults disk.new) }
         ensures quiet { ¬ (IsErrOf result AppendFault.Disk) → D.faults disk.new ≡ D.faults disk.old }
         ensures later { D.faults disk.old ≤ D.faults disk.new }

@@ -18,7 +18,7 @@ use Rattle.step_runner.specs.declared.entries.RunnerEntry.{RunnerEntry}
 use Rattle.step_runner.specs.declared.entries.Seen.{Seen}
 use Rattle.step_runner.specs.declared.entries.Seen.TheVariants as seen
 use Rattle.components.specs.Fitted.{Fitted, prepared_of}
-use Rattle.components.specs.Components.{Components, ComponentState, Child, At, owner, place_of, is_settled, is_stopped}
+use Rattle.components.specs.Components.{Components, ComponentState, Child, At, owner, place_of, has_broken, is_settled, is_stopped}
 use Rattle.components.specs.Turns.{IsNext, IsQuiet, is_begun, is_unstarted, owes}
 use Rattle.components.specs.Acts.{MayMove, MayKill}
 use Rattle.components.specs.Deadlines.{has_passed}
@@ -159,11 +159,17 @@ MayKeep p r = ⊥
 
 -- ---- other items, and the stop of all
 
+-- One is broken and not to be stopped, and every act was taken: what broke comes up again.
+pub record MayComeAgain (p : SessionState) : Type 0 where
+  pub opened : p.opened ≡ true
+  pub broken : has_broken p.world ≡ true
+  pub quiet : IsQuiet p.world
+
 -- a table by phase and generation; what is not named is not allowed
 abbrev pub MayChangeIn : Phase → Generation → SessionState → Type 0
 MayChangeIn idle previous p = p.serves ≡ true
 MayChangeIn idle draining p = p.serves ≡ true
-MayChangeIn idle current p = (p.serves ≡ true) × (p.opened ≡ false)
+MayChangeIn idle current p = (p.serves ≡ true) × ((p.opened ≡ false) ⊎ MayComeAgain p)
 MayChangeIn activating previous p = ⊤
 MayChangeIn activating draining p = ⊤
 MayChangeIn rolling draining p = is_stopped p.world ≡ true

@@ -360,3 +360,16 @@ stays_idles = Moved 0 (event.Stop after.Gone) ∷ StopsAll ∷ passes (not_asked
 
 abbrev pub after_stays_idles : Origin → SessionState
 after_stays_idles o = state_after (after_stays_closes o) stays_idles
+
+-- it comes up again: it is stopped for good, and begins anew
+abbrev pub comes_again : List TraceEvent
+comes_again = Changed (up_a ∷ []) no_failures true ∷ []
+
+abbrev pub after_comes_again : Origin → SessionState
+after_comes_again o = state_after (after_stays_closes o) comes_again
+
+abbrev pub again_begins : List TraceEvent
+again_begins = ReadClock 0 ∷ begins 0 ∷ begins 0 ∷ Moved 0 (event.Stop after.Again) ∷ []
+
+abbrev pub after_again_begins : Origin → SessionState
+after_again_begins o = state_after (after_comes_again o) again_begins

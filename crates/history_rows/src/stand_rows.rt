@@ -31,7 +31,8 @@ ghost use Rattle.history_rows.specs.StandRows.{after_soft_breaks, soft_begins, a
 ghost use Rattle.history_rows.specs.StandRows.{set_both, serves_texts, text, after_text, text_starts, after_text_starts, text_takes_taken};
 ghost use Rattle.history_rows.specs.StandRows.{after_text_takes_taken, text_takes, after_text_takes, text_replaces, after_text_replaces, text_stops};
 ghost use Rattle.history_rows.specs.StandRows.{after_text_stops, up_a, serves_none, stays, after_stays, stays_changes, after_stays_changes, stays_fails};
-ghost use Rattle.history_rows.specs.StandRows.{after_stays_fails, stays_closes, after_stays_closes, stays_idles, after_stays_idles};
+ghost use Rattle.history_rows.specs.StandRows.{after_stays_fails, stays_closes, after_stays_closes, stays_idles, after_stays_idles, after_comes_again};
+ghost use Rattle.history_rows.specs.StandRows.{again_begins, after_again_begins};
 
 /// One that is replaced is stopped by the steps of its earlier item, and then comes up with those of the new one.
 pub fn newer_version_row()
@@ -117,6 +118,10 @@ pub fn soft_broken_row()
     ensures before { (o : Origin) → MayFollow (after_soft_fails o) (begins 0) → ⊥ }
     ensures installed { (o : Origin) → MayFollow (state_after (after_soft_fails o) (Moved 1 event.Retry ∷ [])) (begins 0) → ⊥ }
     ensures fourth { (o : Origin) → MayFollow (after_soft_breaks o) (Moved 1 event.Retry) → ⊥ }
+    ensures again { (o : Origin) (r : Recipes) (made : List Fitted) → AreFitted o (read_as r both) made →
+        IsProper (with_recipes r (after_soft_begins o)) (Changed made no_failures true ∷ []) }
+    ensures unbroken { (o : Origin) (r : Recipes) (made : List Fitted) → MayFollow (with_recipes r (after_soft_fails o)) (Changed made no_failures true) → ⊥ }
+    ensures busy { (o : Origin) (r : Recipes) (made : List Fitted) → MayFollow (with_recipes r (after_soft_breaks o)) (Changed made no_failures true) → ⊥ }
 {}
 
 /// One that stays runs its shutdown with the texts as they are now, where another configuration comes for what it needs softly.
@@ -135,7 +140,8 @@ pub fn newer_texts_row()
     ensures closes { (o : Origin) → MayFollow (after_text_takes o) (closes outcomes.Successful) → ⊥ }
 {}
 
-/// One that is broken stays so where the deployment closes without it: no change comes, and it is not tried again.
+/// One that is broken where the deployment closes without it is not tried again, but comes up again with the set: once, since it
+/// is to be stopped from there on, and begins anew.
 pub fn stays_broken_row()
     ensures opens { (o : Origin) → AreFitted o [] [] → IsProper (serves_none o) stays }
     ensures changes { (o : Origin) (r : Recipes) (made : List Fitted) → AreFitted o (read_as r (item_a ∷ [])) made →
@@ -147,5 +153,9 @@ pub fn stays_broken_row()
     ensures retries { (o : Origin) → MayFollow (after_stays_closes o) (Moved 0 event.Retry) → ⊥ }
     ensures begins { (o : Origin) → MayFollow (after_stays_closes o) (begins 0) → ⊥ }
     ensures starts { (o : Origin) → MayFollow (after_stays_closes o) (starts (not_asked 0) 0 0 step.Startup (codes "s")) → ⊥ }
-    ensures changed { (o : Origin) (r : Recipes) (made : List Fitted) → MayFollow (with_recipes r (after_stays_closes o)) (Changed made no_failures true) → ⊥ }
+    ensures again { (o : Origin) (r : Recipes) (made : List Fitted) → AreFitted o (read_as r (item_a ∷ [])) made →
+        IsProper (with_recipes r (after_stays_closes o)) (Changed made no_failures true ∷ []) }
+    ensures again_begins { (o : Origin) → IsProper (after_comes_again o) again_begins }
+    ensures again_starts { (o : Origin) → MayFollow (after_again_begins o) (starts (asked 0) 0 0 step.Startup (codes "s")) }
+    ensures twice { (o : Origin) (r : Recipes) (made : List Fitted) → MayFollow (with_recipes r (after_comes_again o)) (Changed made no_failures true) → ⊥ }
 {}

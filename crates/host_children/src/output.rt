@@ -1,16 +1,13 @@
 //! Where the output of children goes.
 ghost use Rattle.std.specs.Process.{SameProgramAndArgs, SameEnv, SameDir};
 
+use crate::anew::make_anew;
 use host_files::{LOG_LIMIT, open_log, read_full};
 use std::alloc::{AllocError, Global};
 use std::fs::{File, Files, OpenOptions};
-use std::io::{ErrorKind, Write};
-use std::os::unix::fs::OpenOptionsExt;
+use std::io::Write;
 use std::process::Stdio;
 use std::{fs, io, process};
-
-/// Logs are their owner's alone.
-const LOG_MODE: u32 = 0o600;
 
 /// How many bytes of a log are copied at once, and how often at most: what a log may have.
 const PART: usize = 65_536;
@@ -88,18 +85,6 @@ pub(crate) fn turn_log<R: Files<File = File>>(
         &mut kept,
     )?;
     file.set_len(0)
-}
-
-/// Makes an empty file, in the place of one that stands there.
-fn make_anew<R: Files<File = File>>(files: &R, path: &str) -> io::Result<File> {
-    match fs::remove_file(files, path) {
-        Ok(()) => {}
-        Err(error) if error.kind() == ErrorKind::NotFound => {}
-        Err(error) => return Err(error),
-    }
-    let mut options = OpenOptions::new();
-    options.write(true).create_new(true).mode(LOG_MODE);
-    options.open(files, path)
 }
 
 /// Copies what stands in the file from there on, up to what a log may have.

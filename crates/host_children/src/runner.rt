@@ -1,12 +1,14 @@
 ghost use Rattle.std.specs.Prelude.{◌≡◌, ◌<◌, ◌≤◌, ◌+◌, ◌^◌, ◌∷◌, ◌==◌, [], ℕ, not, All, Contains, map, filter, IsTrue, None, IfSome, IfNone, OnOk, OnErr};
 ghost use Rattle.std.specs.Prelude.{true};
 ghost use Rattle.step_runner.specs.Entries.{without};
+ghost use Rattle.nuc_base.specs.declared.kinds.Exit.TheVariants as exits;
 ghost use Rattle.step_runner.specs.Waits.{RoseAtLost, is_own};
 
 use crate::children::{Running, first_ended, look_at, remove_numbered};
 use crate::clock::{LAST_MOMENT, millis_since, moment_at, pause_after};
 use crate::keeper::Keeper;
 use crate::programs::{Shell, is_on_path};
+use crate::running::{Driving, RunningFile, tell};
 use nuc_base::{Exit, Text};
 use std::fs::{File, Files};
 use std::io::ErrorKind;
@@ -14,7 +16,7 @@ use std::process::Processes;
 use std::rt::{Clock, Env};
 use std::time::{Duration, Instant};
 use std::{fs, io, thread};
-use step_runner::{Command, Runner, RunnerFault, Waited};
+use step_runner::{Command, Runner, RunnerFault, View, Waited};
 
 /// Runs each command as `sh -c SCRIPT` in its folder, which is made as needed, with the command's variables added to
 /// the environment. `sh` is that of the PATH with which the program was started, whatever PATH the command sets, the first
@@ -30,6 +32,9 @@ use step_runner::{Command, Runner, RunnerFault, Waited};
 /// Children that live are noted in the file `children` of `root`. What lives of those that an earlier call noted is ended at the
 /// first call of `start`, `wait` or `kill`: a call that was killed left them. Where there is a folder of logs, starts, ends, kills
 /// and what lives on stand in its log of events, and a component's in its own log too.
+///
+/// What it is shown stands in the file `running` of `root` from the first time on, once `show_as` has said what the call does, and
+/// to `end_showing`. A file that can't be written changes nothing else; it is named in the log of events once, and tried again.
 ///
 /// Moments are milliseconds of a clock that stands still where this program did not look: it goes on where a look found
 /// that no child has ended, and from a start, from which the time of a step counts, as the moment told before. So the ends
@@ -49,6 +54,7 @@ pub struct ShellRunner<'a, R: Processes + Clock> {
     stood: u64,
     /// When a child was started last, or the end of one was told.
     stirred: u64,
+    running: Option<RunningFile>,
     ghost in_time: { clock < 2 ^ 62 },
     ghost past: { told ≤ clock },
     ghost numbered: { All (λ (c : ℕ). c < next) (map (λ c. c.number) children.items) },
@@ -74,6 +80,31 @@ impl<'a, R: Processes + Clock + Files<File = File> + Env + AllocGlobal> ShellRun
             faults: 0,
             stood: 0,
             stirred: 0,
+            running: None,
+        }
+    }
+
+    /// From here on what it is shown stands in the file `running`, below a line of what this call does. One that an earlier call
+    /// left is taken away, so whoever calls holds the lock of those that write.
+    pub fn show_as(&mut self, call: Driving)
+        ensures living { runner_living self.new ≡ runner_living self.old }
+        ensures faults { runner_faults self.new ≡ runner_faults self.old }
+    {
+        match RunningFile::begin(self.rt, self.keeper.root, call) {
+            Ok(running) => self.running = Some(running),
+            Err(error) => tell(&self.keeper.log, "show", &error),
+        }
+    }
+
+    /// Takes the file `running` away, and writes it no more: the call is at its end.
+    pub fn end_showing(&mut self)
+        ensures living { runner_living self.new ≡ runner_living self.old }
+        ensures faults { runner_faults self.new ≡ runner_faults self.old }
+    {
+        if let Some(running) = self.running.take() {
+            if let Err(error) = running.end(self.rt) {
+                tell(&self.keeper.log, "remove", &error);
+            }
         }
     }
 }
@@ -82,6 +113,7 @@ impl<'a, R: Processes + Clock + Files<File = File> + Env + AllocGlobal> ShellRun
 fn counted(faults: u64, exit: Exit) -> u64
     ensures cause { RoseAtLost faults result exit }
     ensures later { faults ≤ result }
+    ensures quiet { ¬ (exit ≡ exits.Lost) → result ≡ faults }
 {
     match exit {
         Exit::Lost => faults.saturating_add(1),
@@ -202,6 +234,8 @@ impl<'a, R: Processes + Clock + Files<File = File> + Env + AllocGlobal> Runner
 
     ghost started = { λ r. runner_started r };
 
+    ghost shown = { λ r. None };
+
     ghost faults = { λ r. runner_faults r };
 
     fn start(&mut self, command: &Command) -> Result<u64, RunnerFault> {
@@ -253,6 +287,12 @@ impl<'a, R: Processes + Clock + Files<File = File> + Env + AllocGlobal> Runner
     fn on_path(&mut self, word: &Text) -> bool {
         self.asked = false;
         is_on_path(self.rt, word.as_str())
+    }
+
+    fn show<V: View>(&mut self, view: &V) {
+        if let Some(running) = &mut self.running {
+            running.show(self.rt, &self.keeper.log, view);
+        }
     }
 
     ghost past = { λ r. r.past };

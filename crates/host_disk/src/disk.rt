@@ -1,4 +1,4 @@
-ghost use Rattle.std.specs.Prelude.{◌≡◌, ◌≤◌, ℕ, [], false, length, IfOk, OnOk};
+ghost use Rattle.std.specs.Prelude.{◌≡◌, ◌≤◌, ℕ, [], None, false, length, IfOk, OnOk};
 ghost use Rattle.nuc_base.specs.Faults.{Rose, HasCause};
 ghost use Rattle.host_disk.specs.Real.{disk_faults};
 ghost use Rattle.host_disk.specs.Untold.{untold_laws, no_image};
@@ -26,9 +26,9 @@ use std::time::Clock;
 /// file in them, or where the artifacts are listed, and so does what has a name that no artifact can have.
 ///
 /// Of the artifacts, what the system does not let this program remove stays, and the removal answers Ok; what is mounted below
-/// their folder is not looked into. A payload that accepts a deployment is written once the journal's file has room for all
-/// records up to its close: the file is longer then than what was written, by zeros. A program that may write logs its faults,
-/// the locks that it waited for and what stays as events.
+/// their folder is not looked into. Room is made by zeros that are written: the file is longer then than what was asked for, up
+/// to a whole mebibyte where that is to be had. A program that may write logs its faults, the locks that it waited for and what
+/// stays as events.
 #[derive(Drop)]
 pub struct FileDisk<'a, R: Files<File = File>> {
     store: Store<'a, R>,
@@ -92,6 +92,10 @@ impl<'a, R: Files<File = File> + AllocGlobal + Clock> Disk for FileDisk<'a, R> {
 
     ghost faults = { λ disk. disk_faults disk };
 
+    ghost shortages = { λ disk. 0 };
+
+    ghost writer = { λ disk. None };
+
     ghost laws = { untold_laws _ };
 
     fn length(&mut self, file: &str) -> Result<u64, DiskFault> {
@@ -107,6 +111,11 @@ impl<'a, R: Files<File = File> + AllocGlobal + Clock> Disk for FileDisk<'a, R> {
     fn write_at(&mut self, file: &str, at: u64, bytes: &[u8]) -> Result<(), DiskFault> {
         let done = self.store.write_at(file, at, bytes);
         self.counted("write", file, done)
+    }
+
+    fn reserve(&mut self, file: &str, to: u64) -> Result<(), DiskFault> {
+        let done = self.store.reserve(file, to);
+        self.counted("reserve", file, done)
     }
 
     fn cut(&mut self, file: &str, len: u64) -> Result<(), DiskFault> {
@@ -130,5 +139,9 @@ impl<'a, R: Files<File = File> + AllocGlobal + Clock> Disk for FileDisk<'a, R> {
             Err(error) if error.kind() == ErrorKind::OutOfMemory => Err(ListFault::NoMemory),
             Err(error) => Err(ListFault::from(self.failed("list", ARTIFACTS, &error))),
         }
+    }
+
+    fn has_writer(&mut self) -> bool {
+        self.store.has_writer()
     }
 }

@@ -18,19 +18,13 @@ const BEGINNING: usize = 14;
 /// An open gate, with which an entry begins.
 const OPEN_GATE: u8 = 1;
 
-/// With which byte the payload of an entry begins that accepts a deployment, without a revision and with one.
-const ACCEPTED: u8 = 0x12;
-
-const ACCEPTED_REVISED: u8 = 0x1d;
-
-/// How many bytes stand ready behind such an entry: at most 1,283 entries follow it up to the close, none of more than 266
-/// bytes, and whole blocks are taken.
-const ROOM: u64 = 344_064;
+/// In pieces of so many bytes room is taken, where it is to be had, so that not each call lengthens the file.
+const PIECE: u64 = 1_048_576;
 
 /// How an open file stands to what the medium keeps.
 #[derive(Clone, Copy, Debug, PartialEq, Eq)]
 enum Kept {
-    /// Nothing is known: an earlier program may have left it unsynced.
+    /// Nothing is known: an earlier program may have left it unsynced, or this one lengthened it.
     Unknown,
     /// It was written or cut since its last sync.
     Changed,
@@ -182,17 +176,33 @@ impl Slot {
         Ok(())
     }
 
-    /// Writes all of it at that place of the file, which changes. Before a journal takes the entry that accepts a deployment,
-    /// room is made for all entries that may follow up to its close.
+    /// Writes all of it at that place of the file, which changes.
     pub fn write(&mut self, at: u64, bytes: &[u8]) -> io::Result<()> {
-        let Some(opened) = &self.opened else {
+        match &self.opened {
+            Some(opened) => opened.file.write_all_at(bytes, at),
+            None => Err(io::Error::from(ErrorKind::NotFound)),
+        }
+    }
+
+    /// Sees to it that the file, which is open, goes on up to this place, by zeros that are written, so that the system keeps
+    /// room for them. Where it does, nothing is written. Readers go on meanwhile, and no lock is taken: what is added means
+    /// nothing to them. Where there is no room, the file is as before.
+    pub fn reserve(&mut self, to: u64) -> io::Result<()> {
+        let Some(opened) = &mut self.opened else {
             return Err(io::Error::from(ErrorKind::NotFound));
         };
-        if self.is_shared && accepts(bytes) {
-            let end = at.saturating_add(bytes.len() as u64);
-            make_room(&opened.file, self.window.zeros(), end)?;
+        let length = opened.file.metadata()?.len();
+        if length >= to {
+            return Ok(());
         }
-        opened.file.write_all_at(bytes, at)
+        if opened.kept == Kept::Synced {
+            opened.kept = Kept::Unknown;
+        }
+        let zeros = self.window.zeros();
+        lengthen(&opened.file, zeros, length, to)?;
+        let whole = to.div_ceil(PIECE).saturating_mul(PIECE);
+        let _more = lengthen(&opened.file, zeros, to, whole);
+        Ok(())
     }
 
     /// Keeps so many bytes of the file, which is open and changes.
@@ -218,29 +228,6 @@ impl Slot {
         opened.kept = Kept::Synced;
         Ok(())
     }
-}
-
-/// Whether a write to a journal's file is the payload of an entry that accepts a deployment. The other writes are a gate of
-/// 0 or 1, a length, which begins with at most 2, and payloads of other records.
-fn accepts(bytes: &[u8]) -> bool {
-    match bytes.first() {
-        Some(first) => *first == ACCEPTED || *first == ACCEPTED_REVISED,
-        None => false,
-    }
-}
-
-/// Sees to it that the file goes on behind this place for as long as the entries up to a close may, by zeros, which mean
-/// nothing there. Where it does, nothing is written. As much again is taken where that is to be had, so that the next
-/// deployments find it. Where there is no room, the file is as before.
-fn make_room(file: &File, zeros: &[u8], end: u64) -> io::Result<()> {
-    let length = file.metadata()?.len();
-    let least = end.saturating_add(ROOM);
-    if length >= least {
-        return Ok(());
-    }
-    lengthen(file, zeros, length, least)?;
-    let _more = lengthen(file, zeros, least, least.saturating_add(ROOM));
-    Ok(())
 }
 
 /// Lengthens the file by zeros that are written, so that the system keeps room for them. Where it has none, the file is

@@ -9,7 +9,7 @@ use crate::streams::HeldStreams;
 use host_files::{LOG_LIMIT, LONGEST_NAME, Paths, folder_of, is_within, make_folder, sync_folder};
 use nuc_base::{FileName, List, NoMemory};
 use std::alloc::Global;
-use std::fs::{File, Files, OpenOptions};
+use std::fs::{File, Files, OpenOptions, TryLockError};
 use std::io::ErrorKind;
 use std::os::unix::fs::{MetadataExt, OpenOptionsExt};
 use std::time::Clock;
@@ -280,6 +280,17 @@ impl<'a, R: Files<File = File> + AllocGlobal + Clock> Store<'a, R> {
         slot.write(at, bytes)
     }
 
+    /// Sees to it that the file goes on up to this place, and makes it where it is not there.
+    pub fn reserve(&mut self, file: &str, to: u64) -> io::Result<()> {
+        self.make(file)?;
+        self.slots.of(file).reserve(to)
+    }
+
+    /// Whether another program holds the lock of the writers, as far as that can be seen. Nothing is made.
+    pub fn has_writer(&mut self) -> bool {
+        self.lock.is_none() && is_locked(self.outside.rt, &mut self.paths)
+    }
+
     /// Keeps so many bytes. A cut to nothing makes a file that is not there, so that an empty one stands there.
     pub fn cut(&mut self, file: &str, len: u64) -> io::Result<()> {
         if len == 0 {
@@ -441,4 +452,15 @@ fn take_lock<R: Files<File = File> + Clock>(
         .open(outside.rt, path)?;
     outside.keep_writers_out(&lock, LOCK)?;
     Ok(lock)
+}
+
+/// Whether a program holds the lock of the writers. It is shared for a moment, which is shorter than a writer tries it.
+fn is_locked<R: Files<File = File>>(files: &R, paths: &mut Paths<'_>) -> bool {
+    let Ok(path) = paths.plain_file(files, LOCK) else {
+        return false;
+    };
+    match OpenOptions::new().read(true).open(files, path) {
+        Ok(lock) => matches!(lock.try_lock_shared(), Err(TryLockError::WouldBlock)),
+        Err(_) => false,
+    }
 }

@@ -21,6 +21,9 @@ const RECIPES: &str = "library/recipes";
 /// The most bytes of a recipe that are given: one more than a recipe may have.
 const MOST_GIVEN: usize = 65_537;
 
+/// The most recipes that are held. Where there are more, none is: no document takes any of them.
+const MOST_HELD: usize = 1024;
+
 /// How often a call of the system is tried again that failed, and how many milliseconds lie between two tries. Whoever
 /// replaces a file, or a folder that comes over a network, needs a moment.
 const TRIES_MORE: usize = 2;
@@ -40,8 +43,8 @@ struct Shelf<'a, R: Files<File = File>> {
     rt: &'a R,
     paths: Paths<'a>,
     told: Told<'a, R>,
-    /// The names of the recipes, as they were listed last.
-    recipes: Vec<String>,
+    /// The recipes, as they were read last.
+    recipes: Vec<Bytes>,
     opened: Option<Opened>,
 }
 
@@ -71,9 +74,24 @@ impl<'a, R: Files<File = File> + Clock + AllocGlobal + Clone + Drop> Shelf<'a, R
         self.told.fault(call, self.paths.last(), error);
     }
 
-    /// Lists the recipes, and gives their count. The artifact that is open is let go of.
-    fn count(&mut self) -> io::Result<u32> {
+    /// Lets go of the recipes and of the artifact that is open.
+    fn refresh(&mut self) {
+        self.recipes.clear();
         self.opened = None;
+    }
+
+    /// Lists the recipes and reads them, and gives their count.
+    fn count(&mut self) -> io::Result<u32> {
+        self.refresh();
+        let names = self.names()?;
+        if names.len() <= MOST_HELD {
+            self.read_all(names.as_slice())?;
+        }
+        u32::try_from(names.len()).map_err(|_| io::Error::from(ErrorKind::InvalidData))
+    }
+
+    /// The names of the recipes.
+    fn names(&mut self) -> io::Result<Vec<String>> {
         for _ in 0..TRIES_MORE {
             match self.list() {
                 Err(error) if may_pass(&error) => self.pause(),
@@ -83,53 +101,66 @@ impl<'a, R: Files<File = File> + Clock + AllocGlobal + Clone + Drop> Shelf<'a, R
         self.list()
     }
 
-    fn list(&mut self) -> io::Result<u32> {
-        self.recipes.clear();
+    fn list(&mut self) -> io::Result<Vec<String>> {
         self.told.begin();
         let found = json_names(self.rt, self.paths.below(RECIPES)?)?;
         for name in &found.no_text {
             self.told.pass_over(RECIPES, name.as_str());
         }
+        let mut names = Vec::new(self.rt.alloc());
         for name in found.names {
-            self.add(name)?;
+            if self.is_recipe(name.as_str())? {
+                names.push(name)?;
+            }
         }
-        u32::try_from(self.recipes.len()).map_err(|_| io::Error::from(ErrorKind::InvalidData))
+        Ok(names)
     }
 
-    /// Adds the name, where a file stands there or a link that leads to one.
-    fn add(&mut self, name: String) -> io::Result<()> {
-        if leads_to_file(self.rt, self.paths.entry(RECIPES, name.as_str())?)? {
-            self.recipes.push(name)?;
-        } else {
-            self.told.pass_over(RECIPES, name.as_str());
+    /// Whether a file stands under that name or a link that leads to one. Anything else is passed over.
+    fn is_recipe(&mut self, name: &str) -> io::Result<bool> {
+        let is_there = leads_to_file(self.rt, self.paths.entry(RECIPES, name)?)?;
+        if !is_there {
+            self.told.pass_over(RECIPES, name);
+        }
+        Ok(is_there)
+    }
+
+    /// Reads the recipes of these names, one after another.
+    fn read_all(&mut self, names: &[String]) -> io::Result<()> {
+        for name in names {
+            let recipe = self.read(name.as_str())?;
+            self.recipes.push(recipe)?;
         }
         Ok(())
     }
 
-    fn recipe(&mut self, alloc: Global, at: u32) -> io::Result<Bytes>
-        ensures short { IfOk result (λ bytes. length bytes ≤ most_given) }
-    {
+    fn read(&mut self, name: &str) -> io::Result<Bytes> {
         for _ in 0..TRIES_MORE {
-            match self.try_recipe(alloc, at) {
+            match self.try_read(name) {
                 Err(error) if may_pass(&error) => self.pause(),
                 read => return read,
             }
         }
-        self.try_recipe(alloc, at)
+        self.try_read(name)
     }
 
-    fn try_recipe(&mut self, alloc: Global, at: u32) -> io::Result<Bytes>
+    fn try_read(&mut self, name: &str) -> io::Result<Bytes> {
+        let path = self.paths.entry(RECIPES, name)?;
+        read_prefix(self.rt.alloc(), self.rt, path, MOST_GIVEN)
+    }
+
+    /// A copy of the recipe at that place, where it is held.
+    fn recipe(&self, alloc: Global, at: u32) -> io::Result<Bytes>
         ensures short { IfOk result (λ bytes. length bytes ≤ most_given) }
     {
-        match self.recipes.get(at as usize) {
-            Some(name) => read_prefix(
-                alloc,
-                self.rt,
-                self.paths.entry(RECIPES, name.as_str())?,
-                MOST_GIVEN,
-            ),
-            None => Err(io::Error::from(ErrorKind::NotFound)),
-        }
+        let Some(recipe) = self.recipes.get(at as usize) else {
+            return Err(io::Error::from(ErrorKind::NotFound));
+        };
+        let bytes = recipe.as_slice();
+        let count = bytes.len().min(MOST_GIVEN);
+        Bytes::from_slice(alloc, &bytes[..count]).map_err(|_| io::Error::from(
+            ErrorKind::OutOfMemory,
+        ))
     }
 
     /// Opens an artifact, where it is not open already. Answers whether it is there.
@@ -198,10 +229,14 @@ fn leads_to_file<R: Files>(files: &R, path: &str) -> io::Result<bool> {
 
 /// The library in a folder: `library/recipes` has the recipes, its files that end in `.json` in byte order of their names, and
 /// `library/artifacts/NAME/VERSION/FILE` the artifacts. A folder that is not there is empty, a link counts as what it leads to,
-/// and what is no file, or has a name that is no text, is passed over. The recipes are listed anew whenever they are counted,
-/// and the artifact that is open is let go of then: so what came, went or was replaced between two documents counts from the
-/// next one on. What cannot be read is tried three times, a tenth of a second apart. It tells nothing of what the files hold,
-/// and counts its faults.
+/// and what is no file, or has a name that is no text, is passed over. What cannot be read is tried three times, a tenth of a
+/// second apart.
+///
+/// A count lists the recipes and reads them into memory, at most 1,024 of 65,537 bytes each, so that each is given as it stood
+/// then, whatever becomes of its file. A refresh lets go of them, and of the artifact that is open. A count does so by itself
+/// too, for callers that ask it once for a document and do not refresh between two documents: what came, went or was replaced
+/// meanwhile counts from the next one on. So it tells nothing of what it holds, as what is told would have to stay after a
+/// second count; it counts its faults.
 #[derive(Drop)]
 pub struct FolderLibrary<'a, R: Files<File = File>> {
     shelf: Shelf<'a, R>,
@@ -240,9 +275,17 @@ impl<'a, R: Files<File = File> + Clock + AllocGlobal + Clone + Drop> FolderLibra
 
 impl<'a, R: Files<File = File> + Clock + AllocGlobal + Clone + Drop> Library
     for FolderLibrary<'a, R> {
-    ghost content = { λ library. None };
+    ghost use Rattle.library_core.specs.Nothing.{untold};
+
+    ghost content = { λ library. untold };
+
+    ghost coming = { λ library. None };
 
     ghost faults = { λ library. library_faults library };
+
+    fn refresh(&mut self) {
+        self.shelf.refresh();
+    }
 
     fn count(&mut self, _alloc: Global) -> Result<u32, LibraryFault> {
         let count = self.shelf.count();

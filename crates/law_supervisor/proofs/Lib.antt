@@ -29,3 +29,4 @@ pub mod Stopped
 mod Recipes
 mod Small
 mod Ready
+mod Replaced

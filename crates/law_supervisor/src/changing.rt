@@ -1,5 +1,5 @@
 // What a change to other items needs, for `IsSupervised` to hold behind it.
-ghost use Rattle.std.specs.Prelude.{◌≡◌, ◌↔◌, ◌<◌, ◌≤◌, ℕ, Bool, List, Some, false, length, map};
+ghost use Rattle.std.specs.Prelude.{◌≡◌, ◌↔◌, ◌<◌, ◌≤◌, ℕ, Bool, List, Some, false, true, length, map};
 ghost use Rattle.std.specs.List.{All};
 ghost use Rattle.std.specs.Option.{IfSome};
 ghost use Rattle.records.specs.Stored.{Item};
@@ -8,9 +8,9 @@ ghost use Rattle.device.specs.Devices.{Device, Pending};
 ghost use Rattle.device.specs.Lawful.{running};
 ghost use Rattle.device.specs.Plans.{AreRising, item_name};
 ghost use Rattle.components.specs.Made.{AreFitted};
-ghost use Rattle.components.specs.Fitted.{Fitted};
-ghost use Rattle.components.specs.Components.{Components};
-ghost use Rattle.components.specs.Changes.{changed_to};
+ghost use Rattle.components.specs.Fitted.{Fitted, is_same_item};
+ghost use Rattle.components.specs.Components.{ComponentState, Components, is_broken, is_to_stop};
+ghost use Rattle.components.specs.Changes.{changed_to, is_replaced};
 ghost use Rattle.law_supervisor.specs.Keeps.{IsSupervised, HasNoneOwed, Owns, AreCounted, ItemsDiffer};
 ghost use Rattle.law_supervisor.specs.Sound.{IsOrderly};
 
@@ -32,4 +32,10 @@ pub fn ready_items_are_counted()
         AreRising (map item_name items)
         → AreFitted o items fitted → length items ≤ length q.failures → All (λ (n : ℕ). n < 3) q.failures → AreCounted d fitted q.failures }
     ensures differ { (o : Origin) (items : List Item) (fitted : List Fitted) → AreRising (map item_name items) → AreFitted o items fitted → ItemsDiffer fitted }
+{}
+
+/// Where the item that it has comes for a component that is not to be stopped, it is replaced exactly where it is BROKEN. So what
+/// is replaced by a change to the same items is among those that are BROKEN, or was to be stopped before.
+pub fn the_broken_are_replaced()
+    ensures { (f : Fitted) (p : ComponentState) → is_same_item f.item p.fitted.item ≡ true → is_to_stop p ≡ false → is_replaced f p ≡ is_broken p.life.state }
 {}

@@ -10,7 +10,7 @@ mod keeping;
 mod orders;
 mod rows;
 
-pub use changing::{changes_keep, ready_items_are_counted};
+pub use changing::{changes_keep, ready_items_are_counted, the_broken_are_replaced};
 pub use keeping::{
     closes_keep, ends_keep, kills_keep, moves_keep, refusals_keep, skips_keep, starts_keep,
     tellings_keep, time_keeps,

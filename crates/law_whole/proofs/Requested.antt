@@ -28,7 +28,8 @@ use Rattle.records.specs.declared.record.Group.{Group}
 use Rattle.records.specs.declared.record.Origin.{Origin}
 use Rattle.records.specs.declared.record.Requirement.{Requirement}
 use Rattle.library_core.specs.Gathered.{AreGathered}
-use Rattle.library_core.specs.Nothing.{no_content}
+use Rattle.library_core.specs.Library.{Content}
+use Rattle.library_core.specs.Nothing.{no_artifacts, no_content}
 use Rattle.library_core.specs.Sources.{own}
 use Rattle.library_core.specs.declared.fault.CandidatesFault.{CandidatesFault}
 use Rattle.library_core.specs.declared.fault.CandidatesFault.TheVariants as gather
@@ -349,14 +350,14 @@ has_none d cs document (inr (inr (room, (choice, is, inr later)))) = absurd (no_
 
 module _ (one : IsOneRecipe) (elements : DependsOnElements) (d : Device) (o : Origin) (document : Document) (sound : IsSound d) (whole : Whole d)
     (is : d.origin ≡ Some o) (same : AsksTheSame d document) where
-  gathered_in : (f : Facts) → f.origin ≡ o → f.device ≡ d → f.content ≡ Some no_content → AreCandidatesOf f
+  gathered_in : (f : Facts) → f.origin ≡ o → f.device ≡ d → f.content ≡ no_content → AreCandidatesOf f
       → AreGathered (own o d.set) o.platform [] f.candidates
   gathered_in f origin device content are =
       subst (λ (x : Origin). AreGathered (own x d.set) x.platform [] f.candidates) origin
-      (subst (λ (x : Device). AreGathered (own f.origin x.set) f.origin.platform [] f.candidates) device (are.told no_content content).2)
+      (subst (λ (x : Device). AreGathered (own f.origin x.set) f.origin.platform [] f.candidates) device (are.told [] (ap (λ (x : Content). x.recipes) content)).2)
 
   module _ (cs : List Candidate) (draft : Draft) where
-    no_candidates : (fault : CandidatesFault) → RefusalOf (facts d o (Some no_content) 0 0 document cs draft) plan_checks (refusal.Candidates fault) → ⊥
+    no_candidates : (fault : CandidatesFault) → RefusalOf (facts d o no_content 0 0 document cs draft) plan_checks (refusal.Candidates fault) → ⊥
     no_candidates fault (inl memory) = cc
     no_candidates fault (inr (inl opens)) = let wrong = opens.2 in cc
     no_candidates fault (inr (inr (opened, inl memory))) = cc
@@ -364,7 +365,7 @@ module _ (one : IsOneRecipe) (elements : DependsOnElements) (d : Device) (o : Or
     no_candidates fault (inr (inr (opened, inr (inr (aged, inl memory))))) = cc
     no_candidates fault (inr (inr (opened, inr (inr (aged, inr (inl gathers)))))) =
         gather_never gathers.0 fault (λ library. omega (arith, gathers.1.cause library))
-        (own_is_gathered o d gathers.0 sound whole is (gathers.1.told no_content refl)) gathers.2
+        (own_is_gathered o d gathers.0 sound whole is (gathers.1.told [] refl)) gathers.2
     no_candidates fault (inr (inr (opened, inr (inr (aged, inr (inr (gathered, inl memory))))))) = cc
     no_candidates fault (inr (inr (opened, inr (inr (aged, inr (inr (gathered, inr (inl room)))))))) = candidates_plan fault room.0 room.2
     no_candidates fault (inr (inr (opened, inr (inr (aged, inr (inr (gathered, inr (inr (roomy, inl memory))))))))) = cc
@@ -372,7 +373,7 @@ module _ (one : IsOneRecipe) (elements : DependsOnElements) (d : Device) (o : Or
         candidates_plan fault plans.0 plans.2
     no_candidates fault (inr (inr (opened, inr (inr (aged, inr (inr (gathered, inr (inr (roomy, inr (inr none)))))))))) = absurd none.1
 
-    no_version : RefusalOf (facts d o (Some no_content) 0 0 document cs draft) plan_checks (refusal.Plan planning.NoVersion) → ⊥
+    no_version : RefusalOf (facts d o no_content 0 0 document cs draft) plan_checks (refusal.Plan planning.NoVersion) → ⊥
     no_version (inl memory) = cc
     no_version (inr (inl opens)) = let wrong = opens.2 in cc
     no_version (inr (inr (opened, inl memory))) = cc
@@ -385,7 +386,7 @@ module _ (one : IsOneRecipe) (elements : DependsOnElements) (d : Device) (o : Or
     no_version (inr (inr (opened, inr (inr (aged, inr (inr (gathered, inr (inr (roomy, inl memory))))))))) = cc
     no_version (inr (inr (opened, inr (inr (aged, inr (inr (gathered, inr (inr (roomy, inr (inl plans)))))))))) =
         own_set_is_there one elements o d cs document sound whole is
-        (gathered_in (facts d o (Some no_content) 0 0 document cs draft) refl refl refl gathered) same
+        (gathered_in (facts d o no_content 0 0 document cs draft) refl refl refl gathered) same
         (has_none d cs document (subst (IsRefused d cs document) (plan_never plans.0 plans.2) plans.1))
     no_version (inr (inr (opened, inr (inr (aged, inr (inr (gathered, inr (inr (roomy, inr (inr none)))))))))) = absurd none.1
 
@@ -410,13 +411,13 @@ module _ (one : IsOneRecipe) (reads_sound : ReadsSound) (elements : DependsOnEle
     same_asks : AsksTheSame d document
     same_asks = kept_group_asks d document sound (changes_keep_group d name c document made)
 
-    made_keeps : (taken : Result code.Plan Declined) → TakesIn d o (Some no_content) 0 0 document taken → KeepsAll d o name bytes taken
+    made_keeps : (taken : Result code.Plan Declined) → TakesIn d o no_content 0 0 document taken → KeepsAll d o name bytes taken
     made_keeps (Ok taken) takes =
         let p = plan_view taken in
         let planned = takes.2.0.1.1.1.1.0 in
         let fills = takes.2.1.fills in
         let head = head_of o d takes.0 document takes.1 p planned fills in
-        let gathered = gathered_in one elements d o document sound whole is same_asks (facts d o (Some no_content) 0 0 document takes.0 takes.1) refl refl refl
+        let gathered = gathered_in one elements d o document sound whole is same_asks (facts d o no_content 0 0 document takes.0 takes.1) refl refl refl
         takes.2.0.1.1.0 in (
           c,
           on,
@@ -434,15 +435,15 @@ module _ (one : IsOneRecipe) (reads_sound : ReadsSound) (elements : DependsOnEle
     made_keeps (Err (Refused (refusal.Plan planning.NoVersion))) takes =
         absurd (no_version one elements d o document sound whole is same_asks takes.0 takes.1 takes.2)
     made_keeps (Err (Unstaged fault)) takes =
-        let gathered = gathered_in one elements d o document sound whole is same_asks (facts d o (Some no_content) 0 0 document takes.0 takes.1) refl refl refl
+        let gathered = gathered_in one elements d o document sound whole is same_asks (facts d o no_content 0 0 document takes.0 takes.1) refl refl refl
         takes.2.0.1.1.0 in
-        outside fault (own_needs_no_file one elements o d takes.0 document takes.1 sound whole is gathered same_asks takes.2.0.1.1.1.1.0 no_content)
-        (takes.2.1 no_content refl)
+        outside fault (own_needs_no_file one elements o d takes.0 document takes.1 sound whole is gathered same_asks takes.2.0.1.1.1.1.0 no_artifacts)
+        (takes.2.1 no_artifacts refl)
       where
-        outside : (f : StageFault) → AllHold (draft_lines no_content d.set takes.1) → IsOutside f ⊎ IsFirst (draft_lines no_content d.set takes.1) f →
+        outside : (f : StageFault) → AllHold (draft_lines no_artifacts d.set takes.1) → IsOutside f ⊎ IsFirst (draft_lines no_artifacts d.set takes.1) f →
             IsOutside f
         outside f all (inl is) = is
-        outside f all (inr first) = absurd (no_first (draft_lines no_content d.set takes.1) f all first)
+        outside f all (inr first) = absurd (no_first (draft_lines no_artifacts d.set takes.1) f all first)
     made_keeps (Err x) takes = tt
 
 pub changes_keep_all : IsOneRecipe → ReadsSound → DependsOnElements → ChangesKeepAll

@@ -1,6 +1,6 @@
 -- Plans that are taken in, the files of a whole device's own plan, and the devices along a call.
 use Rattle.std.proofs.Common.{◌≡◌, ◌⊎◌, ℕ, Bool, true, false, List, [], ◌∷◌, ◌++◌, map, refl, sym, ap, subst, ◌∙◌, inl, inr}
-use Rattle.std.specs.Prelude.{◌||◌, ◌&&◌, Option, Some, Ok}
+use Rattle.std.specs.Prelude.{◌||◌, ◌&&◌, Ok}
 use Rattle.std.specs.List.{Contains, list_any}
 use Rattle.std.specs.Str.{bytes_eq}
 use Rattle.std.proofs.lemmas.Slice.Eq.{bytes_eq-Decides}
@@ -12,7 +12,7 @@ use Rattle.recipe_reader.specs.OneRecipe.{IsOneRecipe}
 use Rattle.recipe_reader.specs.SetLaws.{DependsOnElements}
 use Rattle.recipe_reader.specs.Sound.{ReadsSound}
 use Rattle.recipe_reader.specs.declared.candidate.Candidate.{Candidate}
-use Rattle.library_core.specs.Library.{Content}
+use Rattle.library_core.specs.Library.{Artifacts}
 use Rattle.records.specs.Stored.{DraftItem, Item, Record, plan_view}
 use Rattle.artifact_store.specs.Staged.{artifact_lines, draft_lines, is_kept, is_same, item_lines, unless}
 use Rattle.artifact_store.specs.declared.fault.StageFault.{StageFault}
@@ -51,7 +51,7 @@ is_item : (x : DraftItem) (k : Item) → k.name ≡ x.name → k.version ≡ x.v
 is_item x k name version = ap (λ (b : Bool). b && bytes_eq k.version x.version) ((bytes_eq-Decides k.name x.name).1 name)
     ∙ (bytes_eq-Decides k.version x.version).1 version
 
-kept_holds : (l : Content) (kept : List Item) (x : DraftItem) → is_kept kept x ≡ true → AllHold (item_lines l kept x)
+kept_holds : (l : Artifacts) (kept : List Item) (x : DraftItem) → is_kept kept x ≡ true → AllHold (item_lines l kept x)
 kept_holds l kept x is = subst (λ (b : Bool). AllHold (unless b (each (artifact_lines l x) x.artifacts))) (sym is) tt
 
 all_of_each : {A : Type 0} (lines : A → Table StageFault) (xs : List A) → ((x : A) → Contains xs x → AllHold (lines x)) → AllHold (each lines xs)

@@ -72,7 +72,7 @@ LocalLeavesBy d r (Some o) groups = LocalLeaves d r o groups
 
 -- the plan of a request's document, and so it is along each run of it
 abbrev pub LocalsMoveOneList : Type 0
-LocalsMoveOneList = (d : Device) (origin : Origin) (content : Option Content) (before after : ℕ) (bytes : List ℕ) (taken : code.Plan)
+LocalsMoveOneList = (d : Device) (origin : Origin) (content : Content) (before after : ℕ) (bytes : List ℕ) (taken : code.Plan)
     → TakesBy (AsksLocal bytes) d origin content before after (Ok taken)
     → (r : LocalRequest) × IsLocalOn bytes d r
     × ((document : Document) × IsLocalDocument d r document × TakesIn d origin content before after document (Ok taken))
@@ -108,4 +108,4 @@ KeepsAll d origin name bytes (Err x) = ⊤
 abbrev pub ChangesKeepAll : Type 0
 ChangesKeepAll = (d : Device) (origin : Origin) (name bytes : List ℕ) (taken : Result code.Plan Declined)
     → IsSound d → Whole d → d.origin ≡ Some origin
-    → TakesBy (AsksChange name bytes) d origin (Some no_content) 0 0 taken → KeepsAll d origin name bytes taken
+    → TakesBy (AsksChange name bytes) d origin no_content 0 0 taken → KeepsAll d origin name bytes taken

@@ -1,5 +1,5 @@
 -- What keeps a device whole, and what a whole device gives.
-use Rattle.std.specs.Prelude.{◌≡◌, ◌⊎◌, ℕ, false, List, [], ◌∷◌, ◌++◌, map, Ok, Err, Option, Some, None, option_map, IfSome, Contains}
+use Rattle.std.specs.Prelude.{◌≡◌, ◌⊎◌, ℕ, false, List, [], ◌∷◌, ◌++◌, map, Ok, Err, Some, None, option_map, IfSome, Contains}
 use Rattle.std.specs.List.{AllZip}
 use Rattle.std.specs.Str.{bytes_eq}
 use Rattle.serde_json.specs.Data.{Data}
@@ -22,7 +22,7 @@ use Rattle.records.specs.Stored.{Draft, Plan, Record, Accepted, Item, plan_view}
 use Rattle.records.specs.declared.record.Plan as code
 use Rattle.records.specs.declared.record.Requirement.{Requirement}
 use Rattle.records.specs.declared.record.Origin.{Origin}
-use Rattle.library_core.specs.Library.{Content}
+use Rattle.library_core.specs.Library.{Artifacts, Content}
 use Rattle.library_core.specs.Sources.{own}
 use Rattle.library_core.specs.Gathered.{AreGathered, IsGatheredOf}
 use Rattle.library_core.specs.Faults.{Gathered}
@@ -100,7 +100,7 @@ OwnIsGathered = (o : Origin) (d : Device) (fault : CandidatesFault)
 abbrev pub OwnNeedsNoFile : Type 0
 OwnNeedsNoFile = (o : Origin) (d : Device) (cs : List Candidate) (document : Document) (draft : Draft)
     → IsSound d → Whole d → d.origin ≡ Some o → AreGathered (own o d.set) o.platform [] cs → AsksTheSame d document
-    → IsPlanned o d cs document draft → (l : Content) → AllHold (draft_lines l d.set draft)
+    → IsPlanned o d cs document draft → (l : Artifacts) → AllHold (draft_lines l d.set draft)
 
 -- The plan's item j is the device's item i, but for a configuration that the document changes: that is computed from the kept
 -- one, the recipe's default and the update.
@@ -135,7 +135,7 @@ OtherGroupsStay = (groups : List Group) (plan : Plan)
 
 -- a plan that is taken in on a whole device leaves it whole
 abbrev pub TakenAreWhole : Type 0
-TakenAreWhole = (d : Device) (o : Origin) (content : Option Content) (before after : ℕ) (document : Document) (plan : code.Plan)
+TakenAreWhole = (d : Device) (o : Origin) (content : Content) (before after : ℕ) (document : Document) (plan : code.Plan)
     → IsSound d → IsRegularDevice d → Whole d → d.origin ≡ Some o → AreSound document.roots
     → TakesIn d o content before after document (Ok plan) → BringsWhole d (Accepted (plan_view plan))
 

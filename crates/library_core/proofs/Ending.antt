@@ -13,7 +13,7 @@ use Rattle.nuc_base.proofs.Lists.{in_there, all_from_in, from_map, in_map}
 use Rattle.recipe_reader.specs.Candidates.{IsAlike}
 use Rattle.library_core.specs.Sources.{Source, source, nucleus, kept_source, own, MayPass}
 use Rattle.library_core.specs.Gathered.{most, AreGathered, IsGatheredOf, KeepBytes}
-use Rattle.library_core.specs.Faults.{IsClash, IsGatherRefusal, Gathered, fault_of}
+use Rattle.library_core.specs.Faults.{AreCounted, IsClash, IsGatherRefusal, Gathered, fault_of}
 use Rattle.library_core.specs.declared.library.LibraryFault.{LibraryFault}
 use Rattle.library_core.specs.declared.library.LibraryFault.TheVariants as library
 use Rattle.library_core.specs.SoFar.{IsSoFar, IsRefusedAtOnce}
@@ -114,3 +114,9 @@ pub handed_quiet : {T : Type 0} (r : Result (List Candidate) CandidatesFault) (f
 handed_quiet (Ok cs) f h other e = absurd h
 handed_quiet (Err g) library.Failed h other e = other (ap Err h)
 handed_quiet (Err g) library.NoMemory h other e = cc e
+
+-- nor were the recipes counted
+pub not_counted : (r : Result (List Candidate) CandidatesFault) (f : LibraryFault) → IsErrAnd r (λ e. e ≡ fault_of f) → AreCounted r → ⊥
+not_counted (Ok cs) f h counted = absurd h
+not_counted (Err e) library.Failed h counted = counted.0 (ap Err h)
+not_counted (Err e) library.NoMemory h counted = counted.1 (ap Err h)

@@ -5,3 +5,4 @@ mod OneList
 pub mod Owning
 pub mod Readings
 pub mod Sifting
+pub mod Telling

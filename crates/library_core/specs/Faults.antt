@@ -1,5 +1,5 @@
 -- What gathering the candidates answers.
-use Rattle.std.specs.Prelude.{◌≡◌, ℕ, ◌<◌, ◌≤◌, List, length, All, Result, MatchResult, ⊤}
+use Rattle.std.specs.Prelude.{◌≡◌, ℕ, ◌<◌, ◌≤◌, List, length, All, Result, MatchResult, IsErrOf, ⊤}
 use Rattle.nuc_base.specs.declared.platform.Platform.{Platform}
 use Rattle.records.specs.declared.record.Origin.{Origin}
 use Rattle.records.specs.Stored.{Item}
@@ -39,3 +39,7 @@ abbrev pub Gathered : List (List ℕ) → Origin → List Item → Result (List 
 Gathered recipes origin kept result = MatchResult result
     (λ cs. (length recipes ≤ most) × All (MayPass origin.platform) recipes × AreGathered (own origin kept) origin.platform recipes cs)
     (IsGatherRefusal (own origin kept) origin.platform recipes)
+
+-- it is no answer for want of the library or of memory, so the recipes were counted
+abbrev pub AreCounted : Result (List Candidate) CandidatesFault → Type 0
+AreCounted result = (IsErrOf result Library → ⊥) × (IsErrOf result NoMemory → ⊥)

@@ -1,10 +1,10 @@
-ghost use Rattle.std.specs.Prelude.{◌≡◌, ◌≤◌, length, map, Some, IfOk, IsErrOf, All};
+ghost use Rattle.std.specs.Prelude.{◌≡◌, ◌≤◌, IsTrue, ℕ, List, length, map, Some, IsSome, IfOk, IsErrOf, All};
 ghost use Rattle.nuc_base.specs.Faults.{Rose};
 ghost use Rattle.records.specs.Stored.{item_view};
-ghost use Rattle.library_core.specs.Library.{Content};
+ghost use Rattle.library_core.specs.Library.{StaysTold};
 ghost use Rattle.library_core.specs.Sources.{IsKept};
 ghost use Rattle.library_core.specs.Gathered.{IsGatheredOf, KeepBytes};
-ghost use Rattle.library_core.specs.Faults.{Gathered};
+ghost use Rattle.library_core.specs.Faults.{Gathered, AreCounted};
 
 use crate::fault::CandidatesFault;
 use crate::kept::own_candidates;
@@ -34,10 +34,12 @@ pub fn candidates<L: Library>(
 ) -> Result<Candidates, CandidatesFault>
     requires few { length kept.now ≤ 128 }
     requires read { All (IsKept origin.now.platform) (map item_view kept.now) }
-    ensures gathered { (l : Content) → L.content library.old ≡ Some l → Gathered l.recipes origin.now (map item_view kept.now) result }
+    // By the recipes that are told after the call, which are those that were told before it.
+    ensures gathered { (rs : List (List ℕ)) → (L.content library.new).recipes ≡ Some rs → Gathered rs origin.now (map item_view kept.now) result }
+    ensures tells { IsTrue (L.content library.new).tells → AreCounted result → IsSome (L.content library.new).recipes }
     ensures read { IfOk result (IsGatheredOf origin.now (map item_view kept.now)) }
     ensures kept_bytes { IfOk result (KeepBytes (map item_view kept.now)) }
-    ensures kept { L.content library.new ≡ L.content library.old }
+    ensures kept { StaysTold L.content L.coming library.old library.new }
     ensures cause { IsErrOf result CandidatesFault.Library → Rose (L.faults library.old) (L.faults library.new) }
     ensures quiet { ¬ (IsErrOf result CandidatesFault.Library) → L.faults library.new ≡ L.faults library.old }
     ensures later { L.faults library.old ≤ L.faults library.new }

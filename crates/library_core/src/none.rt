@@ -1,4 +1,4 @@
-ghost use Rattle.std.specs.Prelude.{◌≡◌, ◌≤◌, [], length, take, slice_index_or, Some, IfOk, IsErrOf};
+ghost use Rattle.std.specs.Prelude.{◌≡◌, ◌≤◌, [], ℕ, List, length, take, slice_index_or, Some, IfOk, IsErrOf};
 ghost use Rattle.nuc_base.specs.Faults.{Rose};
 ghost use Rattle.library_core.specs.Nothing.{no_content};
 
@@ -12,19 +12,23 @@ use std::alloc::Global;
 pub struct NoLibrary;
 
 impl Library for NoLibrary {
-    ghost use Rattle.library_core.specs.Library.{Content, most_given, IsPieceOf, IsWithin};
+    ghost use Rattle.library_core.specs.Library.{Artifacts, Content, StandsStill, StaysTold, IsRefreshed, most_given, IsPieceOf, IsWithin};
     ghost use Rattle.library_core.specs.Nothing.{no_content};
 
-    ghost content = { λ _. Some no_content };
+    ghost content = { λ _. no_content };
+
+    ghost coming = { λ _. Some [] };
 
     ghost faults = { λ _. 0 };
+
+    fn refresh(&mut self) {}
 
     fn count(&mut self, _alloc: Global) -> Result<u32, LibraryFault> {
         Ok(0)
     }
 
     fn recipe(&mut self, alloc: Global, _at: u32) -> Result<Bytes, LibraryFault>
-        ensures told { (l : Content) → Some no_content ≡ Some l → IfOk result (λ bytes. bytes ≡ take most_given (slice_index_or l.recipes _at [])) }
+        ensures told { (rs : List (List ℕ)) → no_content.recipes ≡ Some rs → IfOk result (λ bytes. bytes ≡ take most_given (slice_index_or rs _at [])) }
         ensures short { IfOk result (λ bytes. length bytes ≤ most_given) }
         ensures never { ¬ (IsErrOf result LibraryFault.Failed) }
     {

@@ -1,13 +1,14 @@
 // Parts of what a library in memory holds.
 ghost use Rattle.std.specs.Prelude.{◌≡◌, ◌<◌, ◌≤◌, [], length, take, slice_index_or, option_map, IfOk, IfErr};
 ghost use Rattle.library_core.specs.Library.{most_given, IsPart, IsPieceOf, IsWithin};
-ghost use Rattle.library_core.specs.Memory.{is_stored, stored_in};
+ghost use Rattle.library_core.specs.Memory.{listed, is_stored, stored_in, IsNext};
 
 use crate::library::{LibraryFault, Piece};
-use crate::memory::Stored;
+use crate::memory::{Contents, Stored};
 use npm_ranges::Version;
 use nuc_base::{Bytes, Label, Name, copy_prefix};
 use std::alloc::Global;
+use std::collections::VecDeque;
 
 /// The most bytes of a recipe that a call gives: one more than a recipe may have.
 const MOST_GIVEN: usize = 65_537;
@@ -33,6 +34,16 @@ pub(crate) fn find<'a>(
         }
     }
     None
+}
+
+/// Takes the first of what comes.
+pub(crate) fn next_of(coming: &mut Option<VecDeque<Contents>>) -> Option<Contents>
+    ensures { IsNext (listed (option_map (λ q. q.items) coming.old)) result (listed (option_map (λ q. q.items) coming.new)) }
+{
+    match coming {
+        Some(coming) => coming.pop_front(),
+        None => None,
+    }
 }
 
 /// Copies what there is from that place on, up to the slice.

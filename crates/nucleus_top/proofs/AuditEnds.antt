@@ -11,7 +11,7 @@ use Rattle.nucleus_top.specs.Inits.{IsRefusedAt}
 use Rattle.nucleus_top.specs.Audits.{ComparisonAnswer, IsWhole, IsDifferent, AuditAnswer, AuditParts}
 use Rattle.nucleus_top.specs.declared.answer.Answer.{Answer}
 use Rattle.nucleus_top.specs.declared.answer.Answer.TheVariants.{Made, Shown, Planned, Unplanned, Whole, Differs}
-use Rattle.nucleus_top.specs.declared.answer.Answer.TheVariants.{DiskFailed, NotInitialised, Damaged, NoMemory, Possible, Got, Drawn}
+use Rattle.nucleus_top.specs.declared.answer.Answer.TheVariants.{DiskFailed, NotInitialised, Damaged, Unreadable, NoMemory, Possible, Got, Drawn}
 use Rattle.nucleus_top.proofs.Standing.{none_stands, same_device}
 use Rattle.nucleus_top.proofs.Told.{answer_or_edge}
 
@@ -122,6 +122,7 @@ module _ (store : Store) (printed : Printed) (result : Status) where
   damaged : (a : Answer) → AuditAnswer store a → IsPrinted printed result a → result ≡ status.Damaged → (place : List ℕ) × IsRefusedAt store place ×
       HasPrinted printed (damaged_line place)
   damaged (Damaged place) comes (inl told) is = (place, comes, told.1)
+  damaged (Unreadable text) comes (inl told) is = absurd comes
   damaged (Unplanned r text) comes (inl told) is = absurd comes
   damaged a comes (inl told) is = cc
   damaged a comes (inr told) is = cc

@@ -1,5 +1,5 @@
 -- How far a journal that can turn goes behind a plan that is accepted.
-use Rattle.std.proofs.Common.{◌≡◌, ◌⊎◌, ◌≤◌, ◌++◌, inl, inr, ℕ, ◌+◌, Bool, IsTrue, List, Option, ap, arith}
+use Rattle.std.proofs.Common.{◌≡◌, ◌⊎◌, ◌≤◌, ◌++◌, inl, inr, ℕ, ◌+◌, Bool, IsTrue, List, ap, arith}
 use Rattle.std.specs.Ordering.{is_lt, nat_cmp}
 use Rattle.disk_model.specs.Disk.{Image}
 use Rattle.disk_model.specs.declared.disk.Disk as a_disk
@@ -60,7 +60,7 @@ module _ {D : Type 0} (disk : a_disk.Ghosts D) where
         ],
       )
 
-  parts_within : (content : Option Content) (most : ℕ) (old new : Outside D) (p : SessionState) (status : Status) (h : List TraceEvent)
+  parts_within : (content : Content) (most : ℕ) (old new : Outside D) (p : SessionState) (status : Status) (h : List TraceEvent)
       (parts : IsHaltedOrServed disk content most old new p status h) → AreAcceptedWithin disk content most old new p status h parts
   parts_within content most old new p status h (inl halted) = tt
   parts_within content most old new p status h (inr served) =

@@ -11,7 +11,7 @@ use Rattle.nuc_base.specs.declared.kinds.Outcome.TheVariants as outcomes
 use Rattle.nuc_base.specs.declared.status.Status.{Status}
 use Rattle.nuc_base.specs.declared.status.Status.TheVariants as status
 use Rattle.recipe_reader.specs.declared.candidate.Candidate.{Candidate}
-use Rattle.library_core.specs.Library.{Content}
+use Rattle.library_core.specs.Library.{Artifacts, Content}
 use Rattle.library_core.specs.declared.fault.CandidatesFault.TheVariants as gather
 use Rattle.records.specs.Stored.{Accepted, Draft, Plan, Record, plan_view}
 use Rattle.records.specs.declared.record.Plan as code
@@ -69,18 +69,18 @@ abbrev Taken : (ℕ → ℕ) → Result code.Plan Declined → Type 0
 Taken start (Ok plan) = FitsFrom start (plan_view plan)
 Taken start (Err x) = status_of_declined x ≡ status.Memory
 
-module _ (d : Device) (o : Origin) (l : Content) (before after : ℕ) (quiet : Rose before after → ⊥) (start : ℕ → ℕ) (content : Option Content)
-    (told : content ≡ Some l) where
-  module _ (document : Document) (may : MayDeploy d o l start document) (cs : List Candidate) (draft : Draft) where
+module _ (d : Device) (o : Origin) (recipes : List (List ℕ)) (l : Artifacts) (before after : ℕ) (quiet : Rose before after → ⊥) (start : ℕ → ℕ)
+    (content : Content) (told : content.recipes ≡ Some recipes) (holds : content.artifacts ≡ Some l) where
+  module _ (document : Document) (may : MayDeploy d o recipes l start document) (cs : List Candidate) (draft : Draft) where
     abbrev found : Facts
     found = facts d o content before after document cs draft
 
     -- none of the checks fails but for want of memory
     none_refused : (fault : PlanFault) → AreCandidatesOf found → IsRefused d cs document fault → ⊥
     none_refused fault are (inl first) = first_excludes (room_lines d document) fault may.room first
-    none_refused fault are (inr (inl none)) = let p = may.planned cs (are.told l told) in none.2 p.set p.valid
+    none_refused fault are (inr (inl none)) = let p = may.planned cs (are.told recipes told) in none.2 p.set p.valid
     none_refused fault are (inr (inr sizes)) =
-        let p = may.planned cs (are.told l told) in
+        let p = may.planned cs (are.told recipes told) in
         let choice = sizes.1.0 in
         first_excludes (size_lines (items_of d.set document.roots choice)) fault (p.sizes choice sizes.1.1) sizes.1.2
 
@@ -96,7 +96,7 @@ module _ (d : Device) (o : Origin) (l : Content) (before after : ℕ) (quiet : R
 
     at_gathering : (a : Refusal) → RefusalOf found (Gathering ∷ Room ∷ Planning ∷ []) a → a ≡ refusal.NoMemory
     at_gathering a (inl memory) = memory
-    at_gathering a (inr (inl fails)) = elim (may.gathered fails.0 (fails.1.told l told)) [
+    at_gathering a (inr (inl fails)) = elim (may.gathered fails.0 (fails.1.told recipes told)) [
       | inl library ↦ absurd (quiet (fails.1.cause library))
       | inr memory ↦ fails.2 ∙ ap gather_refusal memory
     ]
@@ -117,18 +117,18 @@ module _ (d : Device) (o : Origin) (l : Content) (before after : ℕ) (quiet : R
     takes_in : (taken : Result code.Plan Declined) → AdmissionOutcome found taken → (HasDiskFailed taken → ⊥) → (HasLibraryFailed taken → ⊥) → Taken start taken
     takes_in (Ok plan) takes disk library =
         let passes = takes.0.1.1 in
-        (may.planned cs (passes.0.told l told)).room draft (plan_view plan) passes.1.1.0 takes.1.fills
+        (may.planned cs (passes.0.told recipes told)).room draft (plan_view plan) passes.1.1.0 takes.1.fills
     takes_in (Err (Refused a)) takes disk library = ap (λ (x : Refusal). status_of_declined (Refused x)) (stops_short a takes)
     takes_in (Err (Unstaged f)) takes disk library =
         let passes = takes.0.1.1 in
-        let p = may.planned cs (passes.0.told l told) in
-        elim (takes.1 l told) [
+        let p = may.planned cs (passes.0.told recipes told) in
+        elim (takes.1 l holds) [
           | inl outside ↦ outside_short f outside disk library
           | inr first ↦ absurd (first_excludes (draft_lines l d.set draft) f (p.files draft passes.1.1.0) first)
         ]
     takes_in (Err (Unasked u)) takes disk library = absurd takes
 
-  takes_by : (request : Device → Result Document Declined → Type 0) (may : MayAsk d o l start request) (taken : Result code.Plan Declined)
+  takes_by : (request : Device → Result Document Declined → Type 0) (may : MayAsk d o recipes l start request) (taken : Result code.Plan Declined)
       → TakesBy request d o content before after taken → (HasDiskFailed taken → ⊥) → (HasLibraryFailed taken → ⊥) → Taken start taken
   takes_by request may taken (inl memory) disk library = subst (Taken start) (sym memory) refl
   takes_by request may taken (inr (inl none)) disk library = absurd (may.comes none.0 none.1)
@@ -142,17 +142,19 @@ abbrev Begun : Result code.Plan Declined → Ending → List Record → Type 0
 Begun taken ending records = (plan : code.Plan) × (taken ≡ Ok plan) × IsBegun ending × (rest : List Record) × (records ≡ Accepted (plan_view plan) ∷ rest) ×
     TakesOnce true rest
 
-put_off : (start : ℕ → ℕ) (plan : Plan) (ending : Ending) → FitsFrom start plan → IsPutOff start plan ending → status_of_ending ending ≡ status.Memory
-put_off start plan WantBefore fits off = refl
-put_off start plan (Full at) fits off = absurd (fits (subst (λ (n : ℕ). IsTooFar n (plan_bytes plan)) off.0 off.1))
-put_off start plan ending fits off = absurd off
+put_off : (start : ℕ → ℕ) (plan : Plan) (ending : Ending) → (ending ≡ ByDiskFault → ⊥) → FitsFrom start plan → IsPutOff start plan ending →
+    status_of_ending ending ≡ status.Memory
+put_off start plan WantBefore fails fits off = refl
+put_off start plan ByDiskFault fails fits off = absurd (fails refl)
+put_off start plan (Full at) fails fits off = absurd (fits (subst (λ (n : ℕ). IsTooFar n (plan_bytes plan)) off.0 off.1))
+put_off start plan ending fails fits off = absurd off
 
-follows_begun : (start : ℕ → ℕ) (taken : Result code.Plan Declined) (ending : Ending) (records : List Record) → Taken start taken
-    → TakenEnding start taken ending records → (status_of_ending ending ≡ status.Memory) ⊎ Begun taken ending records
-follows_begun start (Ok plan) ending records fits (inl off) = inl (put_off start (plan_view plan) ending fits off.0)
-follows_begun start (Ok plan) ending records fits (inr on) = inr (plan, refl, on.0, on.2.0, on.2.1, on.2.2)
-follows_begun start (Err x) ending records short (inl declines, none) = inl (ap status_of_ending declines ∙ short)
-follows_begun start (Err x) ending records short (inr starves, none) = inl (ap status_of_ending starves)
+follows_begun : (start : ℕ → ℕ) (taken : Result code.Plan Declined) (ending : Ending) (records : List Record) → (ending ≡ ByDiskFault → ⊥)
+    → Taken start taken → TakenEnding start taken ending records → (status_of_ending ending ≡ status.Memory) ⊎ Begun taken ending records
+follows_begun start (Ok plan) ending records fails fits (inl off) = inl (put_off start (plan_view plan) ending fails fits off.0)
+follows_begun start (Ok plan) ending records fails fits (inr on) = inr (plan, refl, on.0, on.2.0, on.2.1, on.2.2)
+follows_begun start (Err x) ending records fails short (inl declines, none) = inl (ap status_of_ending declines ∙ short)
+follows_begun start (Err x) ending records fails short (inr starves, none) = inl (ap status_of_ending starves)
 
 -- it closes, however that is, or as it was to
 abbrev ClosesWell : Ending → Type 0
@@ -246,20 +248,21 @@ module _ {D : Type 0} (is_modelled : Bool) (seen : D → Image) (may_leave : D �
   shelf_quiet ask.Local rose = none.quiet_library rose
 
   module _ (old_list new_list : Option (List RunnerEntry)) where
-    deployed_complete : NoneRecorded → DeploysGoOn → (what : Ask) (d : Device) (o : Origin) (start : ℕ → ℕ) (bytes : List ℕ) (l : Content)
+    deployed_complete : NoneRecorded → DeploysGoOn → (what : Ask) (d : Device) (o : Origin) (start : ℕ → ℕ) (bytes : List ℕ) (recipes : List (List ℕ)) (l : Artifacts)
         → IsDeployedOn may_leave moment left_since faults old new old_list new_list printed result d start (shelf_for what library) (AskOutcome what bytes)
-        → d.origin ≡ Some o → (shelf_for what library).content ≡ Some l → MayAsk d o l start (AskOutcome what bytes)
+        → d.origin ≡ Some o → (shelf_for what library).content.recipes ≡ Some recipes → (shelf_for what library).content.artifacts ≡ Some l
+        → MayAsk d o recipes l start (AskOutcome what bytes)
         → (result ≡ status.Memory)
         ⊎ IsComplete may_leave moment left_since faults old new old_list new_list printed result d (shelf_for what library) (AskOutcome what bytes)
-    deployed_complete quiet law what d o start bytes l h origin told may =
+    deployed_complete quiet law what d o start bytes recipes l h origin told holds may =
         let shelf = shelf_for what library in
         let origin_is = some_one d.origin h.origin o h.origin_is origin in
         let call = h.call.0 in
         let records = records_of call.history in
-        let taken = takes_by d h.origin l shelf.faults_before shelf.faults_after (shelf_quiet what) start shelf.content told (AskOutcome what bytes)
-        (subst (λ (x : Origin). MayAsk d x l start (AskOutcome what bytes)) (sym origin_is) may)
+        let taken = takes_by d h.origin recipes l shelf.faults_before shelf.faults_after (shelf_quiet what) start shelf.content told holds (AskOutcome what bytes)
+        (subst (λ (x : Origin). MayAsk d x recipes l start (AskOutcome what bytes)) (sym origin_is) may)
         h.taken h.takes (λ failed. none.quiet_disk (h.disk_cause failed)) (λ failed. shelf_quiet what (h.library_cause failed)) in
-        elim (follows_begun start h.taken call.ending records taken h.call.1) [
+        elim (follows_begun start h.taken call.ending records (λ fails. none.quiet_disk (h.failed fails)) taken h.call.1) [
           | inl short ↦ inl (short_of result never_edge (status_of_ending call.ending) short call.answers)
           | inr (plan, is, begun, rest, first, once) ↦ elim
               (begun_ends result never_edge call.ending begun (λ fails. none.quiet_disk (h.failed fails)) call.answers) [
@@ -389,24 +392,24 @@ module _ {D : Type 0} (is_modelled : Bool) (seen : D → Image) (may_leave : D �
 module _ {D : Type 0} (is_modelled : Bool) (seen : D → Image) (may_leave : D → Image → Type 0) (moment : D → ℕ) (left_since : D → ℕ → Image → Type 0)
     (faults : D → ℕ) where
   pub deploys_complete : NoneRecorded → DeploysGoOn → DeploysComplete is_modelled seen may_leave moment left_since faults
-  deploys_complete quiet law old new old_list new_list input library printed result what d o bytes l (inl away) parts none told stands origin idle reads
-      holds may =
+  deploys_complete quiet law old new old_list new_list input library printed result what d o bytes recipes l (inl away) parts none told stands origin idle reads
+      tells holds may =
       inl (refused_short is_modelled seen may_leave moment left_since faults old new input library printed result parts none told d stands
       (is_some_of d.origin o origin) (λ a. MayNotDeploy (store_of is_modelled seen faults old new) input a)
       (idle_refused_short is_modelled seen may_leave moment left_since faults old new input library printed result parts none told d stands
       (is_some_of d.origin o origin) idle) away)
-  deploys_complete quiet law old new old_list new_list input library printed result what d o bytes l (inr (e, start, found, starts, on)) parts none told
-      stands origin idle reads holds may =
+  deploys_complete quiet law old new old_list new_list input library printed result what d o bytes recipes l (inr (e, start, found, starts, on)) parts none told
+      stands origin idle reads tells holds may =
       let same = one_device is_modelled seen may_leave moment left_since faults old new input library printed result parts none told d stands
       (is_some_of d.origin o origin) e found in
       let from = subst (λ (x : Device). StartsFrom (seen old) x start) same (starts told) in
       let here = subst (λ (x : Device). IsInputDeployed may_leave moment left_since faults old new old_list new_list printed result what x start input
       (shelf_for what library)) same on in
       deployed_complete is_modelled seen may_leave moment left_since faults old new input library printed result parts none old_list new_list quiet law what d
-      o start bytes l
+      o start bytes recipes l
       (subst (λ (b : List ℕ). IsDeployedOn may_leave moment left_since faults old new old_list new_list printed result d start (shelf_for what library)
       (AskOutcome what b)) (here.1.whole bytes reads) here.2)
-      origin holds (may start from)
+      origin tells holds (may start from)
 
   pub resumes_get_on : NoneRecorded → ResumesGoOn → ResumesGetOn is_modelled seen may_leave moment left_since faults
   resumes_get_on quiet law old new old_list new_list input library printed result d q (inl away) parts none told stands origin some up =

@@ -35,7 +35,7 @@ use Rattle.nucleus_top.specs.Inits.{IsRefusedAt}
 use Rattle.nucleus_top.specs.Opening.{IsImageOf, StandsForNone}
 use Rattle.nucleus_top.specs.Planning.{IsFound, IsPending}
 use Rattle.nucleus_top.specs.declared.answer.Answer.{Answer}
-use Rattle.nucleus_top.specs.declared.answer.Answer.TheVariants.{Unplanned, Pending, DiskFailed, SourceFailed, NotInitialised, Damaged, NoMemory}
+use Rattle.nucleus_top.specs.declared.answer.Answer.TheVariants.{Unplanned, Pending, DiskFailed, SourceFailed, NotInitialised, Damaged, Unreadable, NoMemory}
 use Rattle.nucleus_top.proofs.Standing.{none_stands, same_device}
 use Rattle.nucleus_top.proofs.Unrefused.{may_refuse, of_refusal}
 
@@ -128,10 +128,11 @@ module _ {D : Type 0} (Clause : Handled → Type 0) (most : ℕ) (rounds : List 
   ends_as last.Spent why = ⊎_elim (λ is. ap may_end is) (λ is. ap may_end is) why.1
   ends_as last.Shut why = ap may_end why.0
   ends_as (last.StoppedBy x) why = ends_with x.status s why.with_status
+  ends_as last.SweepFailed why = ⊎_elim (λ is. ap may_end is) (λ is. ap may_end is) why.0
   ends_as last.InboxFailed why = ap may_end why.0
   ends_as last.WantOfMemory why = ap may_end why.0
 
-module _ {D : Type 0} (disk : a_disk.Ghosts D) (content : Option Content) (old new : Outside D) (result : Status) where
+module _ {D : Type 0} (disk : a_disk.Ghosts D) (content : Content) (old new : Outside D) (result : Status) where
   whole_ends : (most : ℕ) (from : Outside D) (p : SessionState) (h : List TraceEvent)
       → IsWholeCall disk slots_ghosts (IsDeployedThere content) most from new p h result → may_end result ≡ true
   whole_ends most from p h call =
@@ -177,6 +178,7 @@ module _ (store : Store) (input : Input) (printed : Printed) (result : Status) w
   damaged : (a : Answer) → MayNotDeploy store input a → IsPrinted printed result a → result ≡ status.Damaged → (place : List ℕ) × IsRefusedAt store place ×
       HasPrinted printed (damaged_line place)
   damaged (Damaged place) why (inl told) is = (place, why, told.1)
+  damaged (Unreadable text) why (inl told) is = absurd why
   damaged (Unplanned r text) why (inl told) is = absurd why
   damaged a why (inl told) is = cc
   damaged a why (inr told) is = cc

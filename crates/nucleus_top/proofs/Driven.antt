@@ -68,7 +68,7 @@ use Rattle.nucleus_top.specs.Drives.{MayNotRead, IsDeployed, IsDeployedOn, IsDri
 use Rattle.nucleus_top.specs.Drives.{IsUnread, IsUnswept, ask_of, shelf_for}
 use Rattle.nucleus_top.specs.Drives.{NamesPendingOf, StartsFrom, TellsSweep, TellsUnread, MayNotDeploy, MayNotOpen, MayNotOpenIdle, slots_start}
 use Rattle.nucleus_top.specs.Opening.{HasEntry, IsImageOf}
-use Rattle.nucleus_top.specs.Parts.{Parts}
+use Rattle.nucleus_top.specs.Parts.{Parts, Setting}
 use Rattle.nucleus_top.specs.Planning.{IsFound, NamesPending}
 use Rattle.nucleus_top.specs.Refusing.{NoDeviceAnswer, TellsFault}
 use Rattle.nucleus_top.specs.Words.{AsksOrder, DrivesNone}
@@ -374,7 +374,7 @@ starts_from s disk image held left some = record {
 -- ---- the document
 
 -- what holds of one request holds of another, where each answer of the one is an answer of the other, or want of memory
-module _ (d : Device) (origin : Origin) (content : Option Content) (before after : ℕ) (taken : Result code.Plan Declined)
+module _ (d : Device) (origin : Origin) (content : Content) (before after : ℕ) (taken : Result code.Plan Declined)
     (first second : Device → Result Document Declined → Type 0)
     (gives : (r : Result Document Declined) → first d r → (r ≡ Err (Refused refusal.NoMemory)) ⊎ second d r) where
   takes_on : TakesBy first d origin content before after taken → TakesBy second d origin content before after taken
@@ -417,7 +417,7 @@ module _ {D : Type 0} (may_leave : D → Image → Type 0) (moment : D → ℕ) 
   }
 
 -- what is made is taken in so
-pub made_takes : (d : Device) (origin : Origin) (content : Option Content) (before after : ℕ) (made : Result Document Declined)
+pub made_takes : (d : Device) (origin : Origin) (content : Content) (before after : ℕ) (made : Result Document Declined)
     (taken : Result code.Plan Declined) → TakesMade d origin content before after made taken → TakesBy (IsMade made) d origin content before after taken
 made_takes d origin content before after (Ok document) taken takes = inr (inr (document, refl, takes.0, takes.1))
 made_takes d origin content before after (Err x) taken takes = inr (inl (x, refl, takes))
@@ -738,12 +738,13 @@ pub asks_for : AsksOnce → (words : List (List ℕ)) (root : List ℕ) (order :
 asks_for once words root order a is same = subst (λ (x : Asked). AreWordsFor words x) (sym same) (asks_by once words root order is)
 
 -- Nothing is done where memory for the words is refused.
-module _ (words : List (List ℕ)) (store : Store) (input : Input) (library : Shelf) (printed : Printed) (same : IsUnchanged store)
+module _ (setting : Setting) (words : List (List ℕ)) (store : Store) (input : Input) (library : Shelf) (printed : Printed) (same : IsUnchanged store)
     (disk : store.faults_after ≡ store.faults_before) (source : input.faults_after ≡ input.faults_before) (shelf : library.faults_after ≡ library.faults_before)
     (sink : printed.faults_after ≡ printed.faults_before) where
-  pub unread_parts : AsksOnce → HasPrinted printed [] → Parts words store input library printed status.Memory
+  pub unread_parts : AsksOnce → HasPrinted printed [] → Parts setting words store input library printed status.Memory
   unread_parts once prints =
-      parts words store input library printed status.Memory once NoMemory (inr (inr (refl, same))) (record { disk = λ other. disk; source = λ other. source })
+      parts setting words store input library printed status.Memory once NoMemory (inr (inr (refl, same)))
+      (record { disk = λ other. disk; source = λ other. source })
       (λ other. shelf) (inl (refl, prints, sink))
 
   pub unread_drives : DriveParts store input library printed status.Memory

@@ -116,5 +116,5 @@ module _ (name : List ℕ) (at : List (List ℕ)) (store : Store) (printed : Pri
     done_comes = λ is_modelled some d stands text has. done_comes is_modelled some d stands a comes told text has;
     absent = absent a comes told;
     absent_comes = λ is_modelled some d stands text lacks. absent_comes is_modelled some d stands a comes told text lacks;
-    refused = looked_parts On store printed result a comes told;
+    refused = looked_parts On store (λ d text on. on) printed result a comes told;
   }

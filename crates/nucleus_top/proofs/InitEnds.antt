@@ -13,7 +13,7 @@ use Rattle.nucleus_top.specs.Leaving.{IsDurable}
 use Rattle.disk_model.specs.Disk.{Image}
 use Rattle.nucleus_top.specs.declared.answer.Answer.{Answer}
 use Rattle.nucleus_top.specs.declared.answer.Answer.TheVariants.{Made, Shown, Planned, Unplanned, Whole, DiskFailed}
-use Rattle.nucleus_top.specs.declared.answer.Answer.TheVariants.{Damaged, Initialised, NoMemory, Possible, Got, Drawn}
+use Rattle.nucleus_top.specs.declared.answer.Answer.TheVariants.{Damaged, Unreadable, Initialised, NoMemory, Possible, Got, Drawn}
 use Rattle.nucleus_top.proofs.Standing.{none_stands}
 use Rattle.nucleus_top.proofs.Told.{answer_or_edge}
 
@@ -50,6 +50,7 @@ module _ (origin : Origin) (store : Store) (printed : Printed) (result : Status)
   damaged : (a : Answer) → InitAnswer origin store a → IsPrinted printed result a → result ≡ status.Damaged → (place : List ℕ) × IsRefusedAt store place ×
       HasPrinted printed (damaged_line place)
   damaged (Damaged place) comes (inl told) is = (place, comes, told.1)
+  damaged (Unreadable text) comes (inl told) is = absurd comes
   damaged (Unplanned r text) comes (inl told) is = absurd comes
   damaged a comes (inl told) is = cc
   damaged a comes (inr told) is = cc

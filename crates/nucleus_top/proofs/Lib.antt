@@ -1,9 +1,11 @@
+mod AboutEnds
 mod Acknowledged
 mod AuditEnds
 mod Bounded
 mod Closing
 mod Comparing
 mod Completing
+mod ComponentsEnds
 mod Crashes
 mod DriveEnds
 mod Driven

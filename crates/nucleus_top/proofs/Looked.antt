@@ -12,7 +12,7 @@ use Rattle.nucleus_top.specs.Opening.{StandsForNone}
 use Rattle.nucleus_top.specs.Planning.{IsFound}
 use Rattle.nucleus_top.specs.Refusing.{NoDeviceAnswer}
 use Rattle.nucleus_top.specs.declared.answer.Answer.{Answer}
-use Rattle.nucleus_top.specs.declared.answer.Answer.TheVariants.{Unplanned, DiskFailed, NotInitialised, Damaged, NoMemory}
+use Rattle.nucleus_top.specs.declared.answer.Answer.TheVariants.{Unplanned, DiskFailed, NotInitialised, Damaged, Unreadable, NoMemory}
 use Rattle.nucleus_top.proofs.Standing.{none_stands}
 use Rattle.nucleus_top.proofs.Unrefused.{no_refusal}
 
@@ -44,7 +44,8 @@ module _ (On : Device → Answer → Type 0) (store : Store) where
   reads_only NoMemory comes = comes
   reads_only a comes = comes.0
 
-  module _ (printed : Printed) (result : Status) where
+  -- where it never is what `about` alone tells of a damaged journal
+  module _ (readable : (d : Device) (text : List ℕ) → On d (Unreadable text) → ⊥) (printed : Printed) (result : Status) where
     none : (a : Answer) → LookAnswer store On a → IsPrinted printed result a → result ≡ status.NotInitialised →
         (IsTrue store.is_modelled → slots_none store.before) × HasPrinted printed none_line
     none NotInitialised comes (inl told) is = (comes.1, told.1)
@@ -64,6 +65,7 @@ module _ (On : Device → Answer → Type 0) (store : Store) where
     damaged : (a : Answer) → LookAnswer store On a → IsPrinted printed result a → result ≡ status.Damaged → (place : List ℕ) × IsRefusedAt store place ×
         HasPrinted printed (damaged_line place)
     damaged (Damaged place) comes (inl told) is = (place, comes, told.1)
+    damaged (Unreadable text) comes (inl told) is = absurd (readable comes.1.0 text comes.1.2)
     damaged (Unplanned r text) comes (inl told) is = absurd (no_refusal r status.Damaged refl (sym told.0 ∙ is))
     damaged a comes (inl told) is = cc
     damaged a comes (inr told) is = cc

@@ -70,7 +70,7 @@ pub resumed_stay : (d : Device) (o : Option Pending) (ending : Ending) (h : List
     TakesOnce (is_some o) (records_of h) → StayWhole d (records_of h)
 resumed_stay d o ending h q resumes ends once = brought_stay_whole d (records_of h) (resumed_wholes d o ending h q resumes ends once)
 
-module _ (request : Device → Result Document Declined → Type 0) (d : Device) (o : Origin) (content : Option Content) (before after : ℕ) (sound : IsSound d)
+module _ (request : Device → Result Document Declined → Type 0) (d : Device) (o : Origin) (content : Content) (before after : ℕ) (sound : IsSound d)
     (start : ℕ → ℕ) (ending : Ending) (records : List Record) where
   begun_brings : (plan : Plan) → BringsMet d (Accepted plan) → PlanEnding start plan ending records → BringMet d records
   begun_brings plan met (inl off) = subst (BringMet d) (sym off.1) tt

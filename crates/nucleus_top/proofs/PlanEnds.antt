@@ -17,7 +17,7 @@ use Rattle.nucleus_top.specs.Inits.{IsRefusedAt}
 use Rattle.nucleus_top.specs.Planning.{IsProposed, IsFound, PlanAnswer, IsPlanPrinted, IsClosePrinted, IsPending, PlanParts}
 use Rattle.nucleus_top.specs.declared.answer.Answer.{Answer}
 use Rattle.nucleus_top.specs.declared.answer.Answer.TheVariants.{Made, Shown, Planned, Unplanned, Whole, Pending, DiskFailed, SourceFailed, LibraryFailed}
-use Rattle.nucleus_top.specs.declared.answer.Answer.TheVariants.{NotInitialised, Damaged, NoMemory, Possible, Got, Drawn}
+use Rattle.nucleus_top.specs.declared.answer.Answer.TheVariants.{NotInitialised, Damaged, Unreadable, NoMemory, Possible, Got, Drawn}
 use Rattle.nucleus_top.proofs.Unrefused.{no_refusal, only_successful}
 
 module _ (store : Store) (input : Input) (library : Shelf) (printed : Printed) (result : Status) where
@@ -135,6 +135,7 @@ module _ (store : Store) (input : Input) (library : Shelf) (printed : Printed) (
       IsRefusedAt store place ×
       HasPrinted printed (damaged_line place)
   damaged (Damaged place) comes (inl told) is = (place, comes, told.1)
+  damaged (Unreadable text) comes (inl told) is = absurd comes.1.2
   damaged (Unplanned r text) comes (inl told) is = absurd (no_refusal r status.Damaged refl (sym told.0 ∙ is))
   damaged a comes (inl told) is = cc
   damaged a comes (inr told) is = cc

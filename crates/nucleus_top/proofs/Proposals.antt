@@ -50,7 +50,7 @@ module _ (whole prefix : List ℕ) (is : prefix ≡ take 524289 whole) (long : 5
   comes_of_long f (Err a) (inr (inl fails)) = inr (inl (fails.0, too_long fails.0 fails.1, fails.2))
   comes_of_long f (Err a) (inr (inr passes)) = absurd (omega (arith, prefix_is_long, passes.0.1.within))
 
-module _ (d : Device) (origin : Origin) (content : Option Content) (before after : ℕ) (result : Result Draft Refusal) where
+module _ (d : Device) (origin : Origin) (content : Content) (before after : ℕ) (result : Result Draft Refusal) where
   -- the first 524,289 bytes are enough
   whole_comes : (whole prefix : List ℕ) → prefix ≡ take 524289 whole → ProposesRead d origin content before after prefix result → ProposesRead d origin
       content before after whole result

@@ -46,7 +46,7 @@ asks_of_long whole prefix is long f (Err a) (inl memory) = inl memory
 asks_of_long whole prefix is long f (Err a) (inr (inl fails)) = inr (inl (fails.0, too_long whole prefix is long fails.0 fails.1, fails.2))
 asks_of_long whole prefix is long f (Err a) (inr (inr passes)) = absurd (omega (arith, prefix_is_long whole prefix is long, passes.0.1.within))
 
-module _ (d : Device) (origin : Origin) (content : Option Content) (before after : ℕ) (result : Result Question Refusal) where
+module _ (d : Device) (origin : Origin) (content : Content) (before after : ℕ) (result : Result Question Refusal) where
   -- the first 524,289 bytes are enough
   whole_asks : (whole prefix : List ℕ) → prefix ≡ take 524289 whole → QuestionsRead d origin content before after prefix result → QuestionsRead d origin
       content before after whole result

@@ -1,6 +1,6 @@
 -- What each image at the end of a call has, by the laws of what is found then.
-use Rattle.std.specs.Prelude.{ℕ, List, ◌++◌, Option}
-use Rattle.std.proofs.Common.{◌⊎◌, inl, inr, ap, sym, subst}
+use Rattle.std.specs.Prelude.{ℕ, List, ◌++◌}
+use Rattle.std.proofs.Common.{◌⊎◌, inl, inr, sym, subst}
 use Rattle.disk_model.specs.Disk.{Image}
 use Rattle.disk_model.specs.declared.disk.Disk as a_disk
 use Rattle.nuc_base.specs.declared.status.Status.{Status}
@@ -39,7 +39,7 @@ module _ {D : Type 0} (disk : a_disk.Ghosts D) where
   in_doubt now p before g (inl stands) = inl (subst (λ (q : SessionState). AllStandFor disk slots_ghosts now q.device) (sym (left-append p g before)) stands)
   in_doubt now p before g (inr stops) = inr (stops_behind before g stops)
 
-  doubt_of : (content : Option Content) (most : ℕ) (old new : Outside D) (p : SessionState) (status : Status) (h : List TraceEvent)
+  doubt_of : (content : Content) (most : ℕ) (old new : Outside D) (p : SessionState) (status : Status) (h : List TraceEvent)
       → IsHaltedOrServed disk content most old new p status h
       → AllStandFor disk slots_ghosts new.disk (state_after p h).device ⊎ StopsAt h
   doubt_of content most old new p status h (inl halted) = halted.0.sure.doubt

@@ -55,6 +55,7 @@ of_begun Idle begun = absurd begun
 
 of_off : (start : ℕ → ℕ) (plan : Plan) (e : Ending) → IsPutOff start plan e → three (status_of_ending e) ≡ false
 of_off start plan WantBefore off = refl
+of_off start plan ByDiskFault off = refl
 of_off start plan (Full at) off = refl
 of_off start plan e off = absurd off
 

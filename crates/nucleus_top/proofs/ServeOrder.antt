@@ -1,6 +1,6 @@
 -- How the rounds of a call that serves give its status, and that what it printed of an acceptance lasts.
 use Rattle.std.proofs.Common.{◌≡◌, ◌∙◌, ◌⊎◌, ⊎_elim, inl, inr, ℕ, Bool, true, false, List, [], ◌∷◌, ◌++◌, refl, sym, ap, subst, arith, append_assoc}
-use Rattle.std.specs.Prelude.{◌+◌, ◌-◌, ◌^◌, ◌≤◌, min, length, Option, Result, Ok, Err, if◌then◌else◌}
+use Rattle.std.specs.Prelude.{◌+◌, ◌-◌, ◌^◌, ◌≤◌, min, length, Result, Ok, Err, if◌then◌else◌}
 use Rattle.std.proofs.lemmas.Bool.{false≢true}
 use Rattle.nuc_base.specs.Faults.{Rose}
 use Rattle.nuc_base.specs.declared.kinds.Outcome.TheVariants as outcome
@@ -29,9 +29,10 @@ use Rattle.session.specs.Endings.{status_of_ending}
 use Rattle.session.specs.Parts.{EndsCall}
 use Rattle.session_serving.specs.Documents.{IsOwnOrEdge, IsDeployedThere}
 use Rattle.session_serving.specs.Parts.{Outside}
-use Rattle.session_serving.specs.Rounds.{AreHandled, InboxFailed, Handled, LastRound, Round, Shut, Spent, WantOfMemory, StoppedBy, Took, Waited}
+use Rattle.session_serving.specs.Rounds.{AreHandled, InboxFailed, Handled, LastRound, Round, Shut, Spent, SweepFailed, WantOfMemory, StoppedBy, Took, Waited}
 use Rattle.session_serving.specs.Rounds.{records_of_last, records_of_rounds, round_of_last, unprinted_of_last}
 use Rattle.session_serving.specs.Served.{EndsAs, IsHalted, IsSetServed}
+use Rattle.session_serving.proofs.Swept.{disk_gives}
 use Rattle.nucleus_top.proofs.Printed.{told_prefix}
 use Rattle.nucleus_top.specs.Lasting.{AreLasting}
 use Rattle.nucleus_top.specs.Opening.{IsImageOf}
@@ -62,7 +63,7 @@ taken_failed start (Err x) d records follows failed = ⊎_elim
     (λ is. absurd cc) follows.0
 taken_failed start (Ok plan) d records follows failed = absurd (⊎_elim (λ off. off.0) (λ on. on.0) follows)
 
-document_library : (content : Option Content) (x : Handled) → IsDeployedThere content x → x.status ≡ statuses.Library → Rose x.before x.after
+document_library : (content : Content) (x : Handled) → IsDeployedThere content x → x.status ≡ statuses.Library → Rose x.before x.after
 document_library content x c is =
     let e = ending_library c.ending (sym c.status ∙ is) in
     c.library_cause (taken_failed x.start c.taken e.0 x.records (subst (λ (y : Ending). TakenEnding x.start c.taken y x.records) e.1 c.follows) e.2)
@@ -78,7 +79,7 @@ same_by : (n m : ℕ) → m ≡ n → RoseBy 0 n m
 same_by n m is = omega (arith, is)
 
 -- one document
-of_document : (content : Option Content) (x : Handled) → IsDeployedThere content x → RoseBy (if is_library x.status then 1 else 0) x.before x.after
+of_document : (content : Content) (x : Handled) → IsDeployedThere content x → RoseBy (if is_library x.status then 1 else 0) x.before x.after
 of_document content x c = by (is_library x.status) (λ is. document_library content x c (status_library x.status is))
   where
     by : (b : Bool) → (b ≡ true → Rose x.before x.after) → RoseBy (if b then 1 else 0) x.before x.after
@@ -92,13 +93,13 @@ rose_on : (a b x y z : ℕ) → RoseBy a x y → RoseBy b y z → RoseBy (a + b)
 rose_on a b x y z first second = least_on (2 ^ 64 - 1) a b x y z first second
 
 -- those of the rounds
-of_rounds : (content : Option Content) (rounds : List Round) (d : Device) (n : ℕ) (e : Device) (m : ℕ)
-    → AreHandled (IsDeployedThere content) d n rounds e m → RoseBy (library_refusals rounds) n m
-of_rounds content [] d n e m h = same_by n m h.1
-of_rounds content (Waited ∷ rounds) d n e m h = of_rounds content rounds d n e m h
-of_rounds content (Took x ∷ rounds) d n e m h = rose_on (if is_library x.status then 1 else 0) (library_refusals rounds) n x.after m
+of_rounds : (content : Content) (rounds : List Round) (d : Device) (n f : ℕ) (e : Device) (m g : ℕ)
+    → AreHandled (IsDeployedThere content) d n f rounds e m g → RoseBy (library_refusals rounds) n m
+of_rounds content [] d n f e m g h = same_by n m h.1
+of_rounds content (Waited ∷ rounds) d n f e m g h = of_rounds content rounds d n f e m g h
+of_rounds content (Took x ∷ rounds) d n f e m g h = rose_on (if is_library x.status then 1 else 0) (library_refusals rounds) n x.after m
     (subst (λ (k : ℕ). RoseBy (if is_library x.status then 1 else 0) k x.after) h.1 (of_document content x h.4))
-    (of_rounds content rounds x.behind x.after e m h.6)
+    (of_rounds content rounds x.behind x.after x.disk_after e m g h.6)
 
 refusals_append : (a b : List Round) → library_refusals (a ++ b) ≡ library_refusals a + library_refusals b
 refusals_append [] b = omega arith
@@ -118,7 +119,7 @@ ends_call : (own s : Status) → IsOwnOrEdge own s → EndsCall s
 ends_call own s (inl is) = ⊎_elim (λ up. inl (ap gives_up is.0 ∙ up)) (λ restart. inr (ap is_restart is.0 ∙ restart)) is.1
 ends_call own s (inr edge) = inl (ap gives_up edge)
 
-module _ {D : Type 0} (content : Option Content) (most : ℕ) (rounds : List Round) (s : Status) (old new : Outside D) (d : Device) where
+module _ {D : Type 0} (content : Content) (most : ℕ) (rounds : List Round) (s : Status) (old new : Outside D) (d : Device) where
   of_last : (l : LastRound) → EndsAs (IsDeployedThere content) most rounds l s old new d → RoseBy (library_refusals (round_of_last l)) old.library new.library
   of_last Spent why = same_by old.library new.library why.2.library
   of_last Shut why = same_by old.library new.library why.1.library
@@ -126,6 +127,7 @@ module _ {D : Type 0} (content : Option Content) (most : ℕ) (rounds : List Rou
       (subst (λ (k : ℕ). RoseBy (if is_library x.status then 1 else 0) k new.library) why.before
       (subst (λ (k : ℕ). RoseBy (if is_library x.status then 1 else 0) x.before k) why.after (of_document content x why.clause)))
       (same_by new.library new.library refl)
+  of_last SweepFailed why = same_by old.library new.library why.1.library
   of_last InboxFailed why = same_by old.library new.library why.1.library
   of_last WantOfMemory why = same_by old.library new.library why.1.library
 
@@ -135,6 +137,7 @@ module _ {D : Type 0} (content : Option Content) (most : ℕ) (rounds : List Rou
   goes_through Spent why up restart = inr refl
   goes_through Shut why up restart = inl refl
   goes_through (StoppedBy x) why up restart = absurd (no_end x.status s why.with_status up restart)
+  goes_through SweepFailed why up restart = absurd (false≢true (sym up ∙ disk_gives s why.0))
   goes_through InboxFailed why up restart = absurd (false≢true (sym up ∙ ap gives_up why.0))
   goes_through WantOfMemory why up restart = absurd (false≢true (sym up ∙ ap gives_up why.0))
 
@@ -142,6 +145,7 @@ module _ {D : Type 0} (content : Option Content) (most : ℕ) (rounds : List Rou
   shut_done Spent why is = absurd cc
   shut_done Shut why is = why.0
   shut_done (StoppedBy x) why is = absurd cc
+  shut_done SweepFailed why is = absurd cc
   shut_done InboxFailed why is = absurd cc
   shut_done WantOfMemory why is = absurd cc
 
@@ -150,6 +154,7 @@ module _ {D : Type 0} (content : Option Content) (most : ℕ) (rounds : List Rou
   spent_all Spent why is = (why.0, why.1)
   spent_all Shut why is = absurd cc
   spent_all (StoppedBy x) why is = absurd cc
+  spent_all SweepFailed why is = absurd cc
   spent_all InboxFailed why is = absurd cc
   spent_all WantOfMemory why is = absurd cc
 
@@ -166,7 +171,7 @@ module _ {D : Type 0} (content : Option Content) (most : ℕ) (rounds : List Rou
       apart : s ≡ statuses.Done → s ≡ statuses.TurnsOver → ⊥
       apart done over = cc
 
-module _ {D : Type 0} (disk : a_disk.Ghosts D) (content : Option Content) (most : ℕ) (old new : Outside D) (status : Status) where
+module _ {D : Type 0} (disk : a_disk.Ghosts D) (content : Content) (most : ℕ) (old new : Outside D) (status : Status) where
   served_in_order : (p : SessionState) (h : List TraceEvent)
       → (s : IsSetServed disk slots_ghosts (IsDeployedThere content) most old new p h status) → IsInOrder most s.rounds s.last status old.library new.library
   served_in_order p h s = record {
@@ -177,17 +182,18 @@ module _ {D : Type 0} (disk : a_disk.Ghosts D) (content : Option Content) (most 
     others = goes_through content most s.rounds status s.to new s.behind s.last s.ends;
     library = subst (λ (n : ℕ). RoseBy n old.library new.library) (sym (refusals_append s.rounds (round_of_last s.last)))
         (rose_on (library_refusals s.rounds) (library_refusals (round_of_last s.last)) old.library s.to.library new.library
-        (of_rounds content s.rounds p.device old.library s.behind s.to.library s.handled)
+        (of_rounds content s.rounds p.device old.library old.faults s.behind s.to.library s.to.faults s.handled)
         (of_last content most s.rounds status s.to new s.behind s.last s.ends));
   }
 
 -- the records of the last round are those whose line is written, and one more at most
-last_split : {D : Type 0} (content : Option Content) (most : ℕ) (rounds : List Round) (s : Status) (old new : Outside D) (d : Device) (l : LastRound) →
+last_split : {D : Type 0} (content : Content) (most : ℕ) (rounds : List Round) (s : Status) (old new : Outside D) (d : Device) (l : LastRound) →
     EndsAs (IsDeployedThere content) most rounds l s old new d →
     (printed : List Record) × (records_of_last l ≡ printed ++ unprinted_of_last l) × (length (unprinted_of_last l) ≤ 1)
 last_split content most rounds s old new d Spent why = ([], refl, omega arith)
 last_split content most rounds s old new d Shut why = ([], refl, omega arith)
 last_split content most rounds s old new d (StoppedBy x) why = (x.printed_records, why.clause.split, why.clause.few)
+last_split content most rounds s old new d SweepFailed why = ([], refl, omega arith)
 last_split content most rounds s old new d InboxFailed why = ([], refl, omega arith)
 last_split content most rounds s old new d WantOfMemory why = ([], refl, omega arith)
 
@@ -204,7 +210,7 @@ written_lasts : {D : Type 0} (disk : a_disk.Ghosts D) (new : D) (d : Device) (re
 written_lasts disk new d records unprinted_records most w before after plan is c left =
     told_prefix d c records w.printed_records unprinted_records before after plan w.split w.few is (λ none. w.whole none c left) (most c left)
 
-module _ {D : Type 0} (disk : a_disk.Ghosts D) (content : Option Content) (most : ℕ) (old new : Outside D) (p : SessionState) (h : List TraceEvent)
+module _ {D : Type 0} (disk : a_disk.Ghosts D) (content : Content) (most : ℕ) (old new : Outside D) (p : SessionState) (h : List TraceEvent)
     (status : Status) where
   halted_written : (x : IsHalted disk slots_ghosts old new p h status) → Written disk new.disk p.device (records_of h) x.first.rest
   halted_written x = record {

@@ -10,7 +10,7 @@ use Rattle.nucleus_top.specs.Inits.{IsRefusedAt}
 use Rattle.nucleus_top.specs.Shows.{IsShown, ShowsDevice, StatusAnswer, StatusParts}
 use Rattle.nucleus_top.specs.declared.answer.Answer.{Answer}
 use Rattle.nucleus_top.specs.declared.answer.Answer.TheVariants.{Made, Shown, Planned, Unplanned, Whole, DiskFailed}
-use Rattle.nucleus_top.specs.declared.answer.Answer.TheVariants.{NotInitialised, Damaged, NoMemory, Possible, Got, Drawn}
+use Rattle.nucleus_top.specs.declared.answer.Answer.TheVariants.{NotInitialised, Damaged, Unreadable, NoMemory, Possible, Got, Drawn}
 use Rattle.nucleus_top.proofs.Standing.{none_stands}
 use Rattle.nucleus_top.proofs.Told.{answer_or_edge}
 
@@ -82,6 +82,7 @@ module _ (json : Bool) (store : Store) (printed : Printed) (result : Status) whe
   damaged : (a : Answer) → StatusAnswer json store a → IsPrinted printed result a → result ≡ status.Damaged → (place : List ℕ) × IsRefusedAt store place ×
       HasPrinted printed (damaged_line place)
   damaged (Damaged place) comes (inl told) is = (place, comes, told.1)
+  damaged (Unreadable text) comes (inl told) is = absurd comes
   damaged (Unplanned r text) comes (inl told) is = absurd comes
   damaged a comes (inl told) is = cc
   damaged a comes (inr told) is = cc

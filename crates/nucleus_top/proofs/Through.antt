@@ -67,10 +67,10 @@ module _ {D : Type 0} {is_modelled : Bool} {seen : D → Image} {may_leave : D �
   store = store_of is_modelled seen faults old new
 
   -- it is driven
-  deployed : (start : ℕ → ℕ) (library : Shelf) → library.content ≡ Some content
+  deployed : (start : ℕ → ℕ) (library : Shelf) → library.content ≡ content → library.faults_after ≡ library.faults_before
       → IsDeployedOn may_leave moment left_since faults old new old_list new_list printed result d start library (AskOutcome ask.Document document)
       → (e : Device) × IsBegunAs (seen new) e × DeviceAfterOne content document d e
-  deployed start library holds h =
+  deployed start library holds stays h =
       let c = h.call.0 in
       let other = no_want_of result (status_of_ending c.ending) c.answers no_want in
       let e = (state_after h.state c.history).device in
@@ -81,11 +81,11 @@ module _ {D : Type 0} {is_modelled : Bool} {seen : D → Image} {may_leave : D �
           idle = h.idle;
           origin = h.origin;
           origin_is = h.origin_is;
-          before = library.faults_before;
-          after = library.faults_after;
           taken = h.taken;
-          takes = subst (λ (x : Option Content). TakesBy (AskOutcome ask.Document document) d h.origin x library.faults_before library.faults_after h.taken)
-              holds h.takes;
+          count = library.faults_before;
+          takes = subst (λ (n : ℕ). TakesBy (AskOutcome ask.Document document) d h.origin content library.faults_before n h.taken) stays
+              (subst (λ (x : Content). TakesBy (AskOutcome ask.Document document) d h.origin x library.faults_before library.faults_after h.taken)
+              holds h.takes);
           state = h.state;
           serves = h.serves;
           device_is = h.driven.device_is;
@@ -124,28 +124,33 @@ module _ {D : Type 0} {is_modelled : Bool} {seen : D → Image} {may_leave : D �
       → (e : Device) × IsBegunAs (seen new) e × DeviceAfterOne content document d e
   refused input h = (d, (stands_on h.reads, begun.1), inr (told_pending input h.answer h.why h.is_printed, refl))
 
-  found : (input : Input) (library : Shelf) → input.document ≡ Some document → library.content ≡ Some content
+  found : (input : Input) (library : Shelf) → input.document ≡ Some document → library.content ≡ content
+      → library.faults_after ≡ library.faults_before
       → IsDeployed may_leave moment left_since faults old new old_list new_list printed result ask.Document store input library
       → (e : Device) × IsBegunAs (seen new) e × DeviceAfterOne content document d e
-  found input library has holds h =
+  found input library has holds stays h =
       let on = h.4 in
       let same : h.0 ≡ d = same_device (seen old) h.0 d (h.2 told).1 begun.0 in
       let bytes : on.0 ≡ document = on.1.whole document has in
-      deployed h.1 library holds
+      deployed h.1 library holds stays
       (subst (λ (x : Device). IsDeployedOn may_leave moment left_since faults old new old_list new_list printed result
       x h.1 library (AskOutcome ask.Document document)) same
       (subst (λ (b : List ℕ). IsDeployedOn may_leave moment left_since faults old new old_list new_list printed result
       h.0 h.1 library (AskOutcome ask.Document b)) bytes
       on.2))
 
-  pub gone_through : (runner : Type 0) (input : Input) (library : Shelf) → input.document ≡ Some document → library.content ≡ Some content
+  -- its library failed nothing, since it would answer that
+  stood_still : (library : Shelf) → (result ≢ status.Library → result ≢ status.Edge → library.faults_after ≡ library.faults_before)
+      → library.faults_after ≡ library.faults_before
+  stood_still library stays = stays (λ is. false≢true (sym no_want ∙ ap is_want is)) (λ is. false≢true (sym no_want ∙ ap is_want is))
+
+  pub gone_through : (runner : Type 0) (input : Input) (library : Shelf) → input.document ≡ Some document → library.content ≡ content
+      → (result ≢ status.Library → result ≢ status.Edge → library.faults_after ≡ library.faults_before)
       → (IsRefusedBefore seen may_leave moment left_since (λ a. MayNotDeploy store input a) old new printed result × runner)
       ⊎ IsDeployed may_leave moment left_since faults old new old_list new_list printed result ask.Document store input library
       → (e : Device) × IsBegunAs (seen new) e × DeviceAfterOne content document d e
-  gone_through runner input library has holds ran = ⊎_elim (λ away. refused input away.0) (λ went. found input library has holds went) ran
-
-pub same_some : {A : Type 0} (x y : A) → Some x ≡ Some y → x ≡ y
-same_some x y is = cc
+  gone_through runner input library has holds stays ran =
+      ⊎_elim (λ away. refused input away.0) (λ went. found input library has holds (stood_still library stays) went) ran
 
 -- ---- one after another
 

@@ -144,5 +144,5 @@ module _ (store : Store) (input : Input) (library : Shelf) where
       done = done a comes told;
       no_version = no_version a comes told;
       pending = record { pending = pending a comes told; pending_comes = pending_comes a comes told };
-      refused = looked_parts On store printed result a comes told;
+      refused = looked_parts On store (λ d text on. on) printed result a comes told;
     }

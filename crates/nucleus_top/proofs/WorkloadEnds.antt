@@ -1,6 +1,6 @@
 -- What each answer of `workload` amounts to.
 use Rattle.std.proofs.Common.{◌≡◌, ◌∙◌, ◌⊎◌, inl, inr, IsTrue, refl, ap, subst, ℕ, List, []}
-use Rattle.std.specs.Prelude.{Result, Ok, Err, IfOk}
+use Rattle.std.specs.Prelude.{true, Some, Result, Ok, Err, IfOk}
 use Rattle.nuc_base.specs.declared.kinds.Outcome.{Outcome}
 use Rattle.nuc_base.specs.declared.status.Status.{Status}
 use Rattle.nuc_base.specs.declared.status.Status.TheVariants as status
@@ -51,13 +51,14 @@ begun_made origin store a thing is comes told same =
 
 -- what the library of a workload holds
 pub holds_drawn : (seed : ℕ) (content : Content) (recipes : List (List ℕ)) (artifacts : List Stored) → content ≡ record {
-  recipes = recipes;
-  artifact = stored_in artifacts;
+  recipes = Some recipes;
+  artifacts = Some (stored_in artifacts);
+  tells = true;
 } → artifacts ≡ []
     → recipes ≡ (recipes_from seed).value → content ≡ drawn_content seed
 holds_drawn seed content recipes artifacts is none drawn =
-    is ∙ ap (λ (l : List Stored). record { recipes = recipes; artifact = stored_in l }) none
-    ∙ ap (λ (l : List (List ℕ)). record { recipes = l; artifact = stored_in [] }) drawn
+    is ∙ ap (λ (l : List Stored). record { recipes = Some recipes; artifacts = Some (stored_in l); tells = true }) none
+    ∙ ap (λ (l : List (List ℕ)). record { recipes = Some l; artifacts = Some (stored_in []); tells = true }) drawn
 
 -- the drawn documents went through from a new store on
 pub ran_tally : {E : Type 0} (seed : ℕ) (content : Content) (documents : List (List ℕ)) (old new : Image) (result : Result (List ℕ) E)

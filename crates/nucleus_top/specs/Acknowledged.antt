@@ -37,5 +37,5 @@ DeployedStay {D} may_leave moment left_since faults = (old new : D) (old_list ne
 
 -- `serve`
 abbrev pub ServedStay : {D : Type 0} → a_disk.Ghosts D → Type 0
-ServedStay {D} disk = (content : Option Content) (old new : Outside D) (result : Status) (d : Device) (turns : ℕ)
+ServedStay {D} disk = (content : Content) (old new : Outside D) (result : Status) (d : Device) (turns : ℕ)
     → (s : IsServedOn disk content old new result d turns) → AllStayTaken (disk.may_leave new.disk) s.printed_records

@@ -19,7 +19,7 @@ use Rattle.why_not.specs.Texts.{why_bytes}
 use Rattle.nucleus_top.specs.declared.answer.Answer.{Answer}
 use Rattle.nucleus_top.specs.declared.answer.Answer.TheVariants.{Made, Shown, Planned, Unplanned, Whole, Differs, Pending, WrongWords, DiskFailed}
 use Rattle.nucleus_top.specs.declared.answer.Answer.TheVariants.{SourceFailed, LibraryFailed, NotInitialised, Damaged, Initialised}
-use Rattle.nucleus_top.specs.declared.answer.Answer.TheVariants.{NoMemory, Possible, Impossible, Got, Absent, Drawn}
+use Rattle.nucleus_top.specs.declared.answer.Answer.TheVariants.{NoMemory, Possible, Impossible, Got, Absent, Drawn, Unreadable}
 
 abbrev pub status_of : Answer → Status
 status_of (Made thing) = status.Done
@@ -40,6 +40,7 @@ status_of SourceFailed = status.Edge
 status_of LibraryFailed = status.Library
 status_of NotInitialised = status.NotInitialised
 status_of (Damaged place) = status.Damaged
+status_of (Unreadable text) = status.Damaged
 status_of (Initialised thing) = status.Initialised
 status_of NoMemory = status.Memory
 
@@ -90,6 +91,7 @@ lines_of SourceFailed = codes "fault 6 source\n"
 lines_of LibraryFailed = library_line
 lines_of NotInitialised = none_line
 lines_of (Damaged place) = damaged_line place
+lines_of (Unreadable text) = text
 lines_of (Initialised thing) = initialised_line thing
 lines_of NoMemory = codes ""
 
@@ -127,14 +129,14 @@ input_of left faults old new = record { document = left old; rest = left new; fa
 abbrev pub input_over : {S : Type 0} → a_source.Ghosts S → S → S → Input
 input_over source old new = input_of source.left source.faults old new
 
--- The library of a call: what it holds, where it tells that, and its counts of faults.
+-- The library of a call: what it tells of what it holds when the call ends, and its counts of faults.
 pub record Shelf : Type 0 where
-  pub content : Option Content
+  pub content : Content
   pub faults_before : ℕ
   pub faults_after : ℕ
 
-abbrev pub shelf_of : {L : Type 0} → (L → Option Content) → (L → ℕ) → L → L → Shelf
-shelf_of content faults old new = record { content = content old; faults_before = faults old; faults_after = faults new }
+abbrev pub shelf_of : {L : Type 0} → (L → Content) → (L → ℕ) → L → L → Shelf
+shelf_of content faults old new = record { content = content new; faults_before = faults old; faults_after = faults new }
 
 abbrev pub shelf_over : {L : Type 0} → a_library.Ghosts L → L → L → Shelf
 shelf_over library old new = shelf_of library.content library.faults old new

@@ -21,6 +21,8 @@ asked_of (orders.Workload seed) = Other
 asked_of orders.Audit = Other
 asked_of (orders.ConfigGet name at) = Other
 asked_of orders.Why = Other
+asked_of orders.Components = Other
+asked_of orders.About = Other
 
 abbrev pub AreWordsFor : List (List ℕ) → Asked → Type 0
 AreWordsFor words (Deploy what) = AsksTo words what

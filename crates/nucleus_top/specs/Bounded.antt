@@ -55,13 +55,13 @@ module _ {D : Type 0} (disk : a_disk.Ghosts D) where
       HasAcceptedTo slots_entries disk.may_leave disk.moment disk.left_since old new x.device plan end))
 
   -- and with each that is handled
-  abbrev pub AreAcceptedWithin : (content : Option Content) (most : ℕ) (old new : Outside D) (p : SessionState) (status : Status) (h : List TraceEvent) →
+  abbrev pub AreAcceptedWithin : (content : Content) (most : ℕ) (old new : Outside D) (p : SessionState) (status : Status) (h : List TraceEvent) →
       IsHaltedOrServed disk content most old new p status h → Type 0
   AreAcceptedWithin content most old new p status h (inl halted) = ⊤
   AreAcceptedWithin content most old new p status h (inr served) =
       AreStarted (IsAcceptedWithin served.2.disk new.disk) (served.8.rounds ++ round_of_last served.8.last)
 
   abbrev pub ServesWithin : Type 0
-  ServesWithin = (content : Option Content) (old new : Outside D) (result : Status) (d : Device) (turns : ℕ)
+  ServesWithin = (content : Content) (old new : Outside D) (result : Status) (d : Device) (turns : ℕ)
       (s : IsServedOn disk content old new result d turns)
       → AreAcceptedWithin content turns (on_disk s.from old) new s.state result s.history s.call.parts

@@ -10,7 +10,7 @@ use Rattle.nuc_base.specs.declared.status.Status.TheVariants as status
 use Rattle.recipe_reader.specs.Members.{members}
 use Rattle.recipe_reader.specs.Sets.{IsValid}
 use Rattle.recipe_reader.specs.declared.candidate.Candidate.{Candidate}
-use Rattle.library_core.specs.Library.{Content}
+use Rattle.library_core.specs.Library.{Artifacts}
 use Rattle.library_core.specs.Faults.{Gathered}
 use Rattle.library_core.specs.declared.fault.CandidatesFault.{CandidatesFault}
 use Rattle.library_core.specs.declared.fault.CandidatesFault.TheVariants as gather
@@ -51,7 +51,7 @@ pub record NoFaults (store : Store) (input : Input) (library : Shelf) (printed :
 
 -- Over these candidates a set is valid, every limit of its items holds, the library has each file that is needed, with its digest,
 -- and the journal has room for the plan.
-pub record HasPlan (d : Device) (o : Origin) (l : Content) (start : ℕ → ℕ) (document : Document) (cs : List Candidate) : Type 0 where
+pub record HasPlan (d : Device) (o : Origin) (l : Artifacts) (start : ℕ → ℕ) (document : Document) (cs : List Candidate) : Type 0 where
   pub set : List ℕ
   pub valid : IsValid (members cs) (wanted_of d.groups document) set
   pub sizes : (choice : List Candidate) → IsChoice d cs document choice → AllHold (size_lines (items_of d.set document.roots choice))
@@ -60,17 +60,18 @@ pub record HasPlan (d : Device) (o : Origin) (l : Content) (start : ℕ → ℕ)
 
 -- No deployment of the document's id is closed, it is no older than what its group has, one more deployment may close, candidates are
 -- gathered, and so it is over these.
-pub record MayDeploy (d : Device) (o : Origin) (l : Content) (start : ℕ → ℕ) (document : Document) : Type 0 where
+pub record MayDeploy (d : Device) (o : Origin) (recipes : List (List ℕ)) (l : Artifacts) (start : ℕ → ℕ) (document : Document) : Type 0 where
   pub is_open : IsOpen d document
   pub fresh : IsFresh d document
-  pub gathered : (fault : CandidatesFault) → Gathered l.recipes o d.set (Err fault) → (fault ≡ gather.Library) ⊎ (fault ≡ gather.NoMemory)
+  pub gathered : (fault : CandidatesFault) → Gathered recipes o d.set (Err fault) → (fault ≡ gather.Library) ⊎ (fault ≡ gather.NoMemory)
   pub room : AllHold (room_lines d document)
-  pub planned : (cs : List Candidate) → Gathered l.recipes o d.set (Ok cs) → HasPlan d o l start document cs
+  pub planned : (cs : List Candidate) → Gathered recipes o d.set (Ok cs) → HasPlan d o l start document cs
 
 -- the request is not refused, and so it is with the document to which it comes
-pub record MayAsk (d : Device) (o : Origin) (l : Content) (start : ℕ → ℕ) (request : Device → Result Document Declined → Type 0) : Type 0 where
+pub record MayAsk (d : Device) (o : Origin) (recipes : List (List ℕ)) (l : Artifacts) (start : ℕ → ℕ)
+    (request : Device → Result Document Declined → Type 0) : Type 0 where
   pub comes : (x : Declined) → request d (Err x) → ⊥
-  pub document : (document : Document) → request d (Ok document) → MayDeploy d o l start document
+  pub document : (document : Document) → request d (Ok document) → MayDeploy d o recipes l start document
 
 -- ---- how the call ends
 
@@ -130,14 +131,14 @@ module _ {D : Type 0} (is_modelled : Bool) (seen : D → Image) (may_leave : D �
   -- plan is accepted, and the call ends with the deployment's close, or for a restart. Want of memory is free.
   abbrev pub DeploysComplete : Type 0
   DeploysComplete = (old new : D) (old_list new_list : Option (List RunnerEntry)) (input : Input) (library : Shelf) (printed : Printed) (result : Status)
-      (what : Ask) (d : Device) (o : Origin) (bytes : List ℕ) (l : Content)
+      (what : Ask) (d : Device) (o : Origin) (bytes : List ℕ) (recipes : List (List ℕ)) (l : Artifacts)
       → IsRefusedBefore seen may_leave moment left_since (λ a. MayNotDeploy (store_of is_modelled seen faults old new) input a) old new printed result
       ⊎ IsDeployed may_leave moment left_since faults old new old_list new_list printed result what (store_of is_modelled seen faults old new) input library
       → DriveParts (store_of is_modelled seen faults old new) input library printed result
       → NoFaults (store_of is_modelled seen faults old new) input library printed
       → IsTrue is_modelled → IsImageOf (seen old) d → d.origin ≡ Some o → d.pending ≡ None
-      → input.document ≡ Some bytes → (shelf_for what library).content ≡ Some l
-      → ((start : ℕ → ℕ) → StartsFrom (seen old) d start → MayAsk d o l start (AskOutcome what bytes))
+      → input.document ≡ Some bytes → (shelf_for what library).content.recipes ≡ Some recipes → (shelf_for what library).content.artifacts ≡ Some l
+      → ((start : ℕ → ℕ) → StartsFrom (seen old) d start → MayAsk d o recipes l start (AskOutcome what bytes))
       → (result ≡ status.Memory)
       ⊎ IsComplete may_leave moment left_since faults old new old_list new_list printed result d (shelf_for what library) (AskOutcome what bytes)
 

@@ -10,6 +10,7 @@ use Rattle.checkpoint_log.specs.declared.slots.Slots.{Slots}
 use Rattle.command_words.specs.Words.{IsOrder}
 use Rattle.command_words.specs.declared.order.Order.{Order}
 use Rattle.command_words.specs.declared.order.Order.TheVariants.{ConfigSet, Deploy, Local, Resume, Serve}
+use Rattle.command_words.specs.declared.order.Order.TheVariants as orders
 use Rattle.records.specs.declared.record.Origin.{Origin}
 use Rattle.records.specs.declared.record.Plan as code
 use Rattle.artifact_store.specs.Swept.{IsSwept, items_of}
@@ -52,7 +53,17 @@ abbrev pub ask_of : Order → Option Ask
 ask_of Deploy = Some ask.Document
 ask_of Local = Some ask.Local
 ask_of (ConfigSet name) = Some (ask.Change name)
-ask_of _ = None
+ask_of Resume = None
+ask_of (Serve turns) = None
+ask_of (orders.Init origin) = None
+ask_of (orders.Status json) = None
+ask_of orders.Plan = None
+ask_of orders.Audit = None
+ask_of (orders.ConfigGet name at) = None
+ask_of orders.Why = None
+ask_of (orders.Workload seed) = None
+ask_of orders.Components = None
+ask_of orders.About = None
 
 -- the words ask to deploy such a thing, at some root
 abbrev pub AsksTo : List (List ℕ) → Ask → Type 0
@@ -177,7 +188,7 @@ module _ {D : Type 0} (may_leave : D → Image → Type 0) (moment : D → ℕ) 
 
 -- a library without recipes and artifacts, which never fails
 abbrev pub no_shelf : Shelf
-no_shelf = record { content = Some no_content; faults_before = 0; faults_after = 0 }
+no_shelf = record { content = no_content; faults_before = 0; faults_after = 0 }
 
 -- A change of a configuration is deployed over no library.
 abbrev pub shelf_for : Ask → Shelf → Shelf

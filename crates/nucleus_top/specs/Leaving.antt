@@ -4,18 +4,35 @@ use Rattle.nuc_base.specs.declared.status.Status.TheVariants as status
 use Rattle.disk_model.specs.Disk.{Image, IsAfter, Settled}
 use Rattle.checkpoint_log.specs.Slots.{slots_files}
 use Rattle.command_words.specs.declared.order.Order.{Order}
-use Rattle.command_words.specs.declared.order.Order.TheVariants.{Init, Workload}
+use Rattle.command_words.specs.declared.order.Order.TheVariants.{Init, Status, Plan, Audit, ConfigGet, Why, Workload, Components, About}
+use Rattle.command_words.specs.declared.order.Order.TheVariants.{Deploy, Resume, Serve, Local, ConfigSet}
 use Rattle.nucleus_top.specs.Opening.{IsImageOf}
 use Rattle.nucleus_top.specs.Answers.{status_of}
 use Rattle.nucleus_top.specs.Begun.{begun_device, ImageBegun}
 use Rattle.nucleus_top.specs.Words.{AsksOrder}
 use Rattle.nucleus_top.specs.declared.answer.Answer.{Answer}
 
--- What a command may make of an image. `init` touches the journal alone, and only one without an entry; the others touch
--- nothing.
+-- it makes nothing of it
+abbrev pub TouchesNone : Image → Image → Type 0
+TouchesNone old new = ⊥
+
+-- What a command may make of an image. `init` touches the journal alone, and only one without an entry; the others that drive no
+-- deployment touch nothing, and of those that drive one it is said elsewhere.
 abbrev pub CommandEffect : Order → Image → Image → Type 0
 CommandEffect (Init origin) = ImageBegun origin
-CommandEffect _ = λ old new. ⊥
+CommandEffect (Status json) = TouchesNone
+CommandEffect Plan = TouchesNone
+CommandEffect Audit = TouchesNone
+CommandEffect (ConfigGet name at) = TouchesNone
+CommandEffect Why = TouchesNone
+CommandEffect (Workload seed) = TouchesNone
+CommandEffect Components = TouchesNone
+CommandEffect About = TouchesNone
+CommandEffect Deploy = TouchesNone
+CommandEffect Resume = TouchesNone
+CommandEffect (Serve turns) = TouchesNone
+CommandEffect Local = TouchesNone
+CommandEffect (ConfigSet name) = TouchesNone
 
 abbrev pub MayBeLeftAfter : Order → (Image → Type 0) → Image → Type 0
 MayBeLeftAfter order allowed image = allowed image ⊎ IsAfter allowed (CommandEffect order) image

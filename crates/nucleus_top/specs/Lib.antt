@@ -1,3 +1,4 @@
+pub mod Abouts
 pub mod Acknowledged
 pub mod Answers
 pub mod Asked
@@ -5,6 +6,7 @@ pub mod Audits
 pub mod Begun
 pub mod Bounded
 pub mod Completeness
+pub mod Components
 pub mod Crashes
 pub mod Drives
 pub mod Gets

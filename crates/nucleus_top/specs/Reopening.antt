@@ -40,5 +40,5 @@ module _ {D : Type 0} (may_leave : D → Image → Type 0) where
 
 -- and with each call that serves
 abbrev pub ServesReopen : {D : Type 0} → a_disk.Ghosts D → Type 0
-ServesReopen {D} disk = (content : Option Content) (old new : Outside D) (result : Status) (d : Device) (turns : ℕ)
+ServesReopen {D} disk = (content : Content) (old new : Outside D) (result : Status) (d : Device) (turns : ℕ)
     (s : IsServedOn disk content old new result d turns) → RecordsReopened disk.may_leave new.disk s.state s.history

@@ -1,5 +1,5 @@
 -- The command that keeps a set up, and what such a call promises.
-use Rattle.std.specs.Prelude.{◌≡◌, ◌≤◌, ◌⊎◌, ℕ, ◌+◌, ◌-◌, ◌^◌, min, Bool, true, false, IsTrue, List, [], ◌∷◌, ◌++◌, length, Option}
+use Rattle.std.specs.Prelude.{◌≡◌, ◌≢◌, ◌≤◌, ◌⊎◌, ℕ, ◌+◌, ◌-◌, ◌^◌, min, Bool, true, false, IsTrue, List, [], ◌∷◌, ◌++◌, length}
 use Rattle.std.specs.Prelude.{if◌then◌else◌}
 use Rattle.std.proofs.Common.{inl, inr}
 use Rattle.nuc_base.specs.declared.status.Status.{Status}
@@ -47,6 +47,10 @@ slots_ghosts = record {
 abbrev pub on_disk : {D : Type 0} → D → Outside D → Outside D
 on_disk from old = record old { disk = from }
 
+-- a call that is refused before it serves changes the disk's count only where it ends with the status of the disk or of an edge
+abbrev pub IsQuietBefore : Store → Status → Type 0
+IsQuietBefore store result = result ≢ statuses.Disk → result ≢ statuses.Edge → store.faults_after ≡ store.faults_before
+
 -- ---- how the call ends, and how often the library failed
 
 abbrev pub is_library : Status → Bool
@@ -77,7 +81,7 @@ pub record IsInOrder (most : ℕ) (rounds : List Round) (last : LastRound) (stat
   -- A document is refused for the library at most as often as that failed.
   pub library : RoseBy (library_refusals (rounds ++ round_of_last last)) before after
 
-module _ {D : Type 0} (disk : a_disk.Ghosts D) (content : Option Content) (most : ℕ) (old new : Outside D) (p : SessionState) (status : Status) where
+module _ {D : Type 0} (disk : a_disk.Ghosts D) (content : Content) (most : ℕ) (old new : Outside D) (p : SessionState) (status : Status) where
   -- Either the pending deployment ends the call, or the set is served from where that was finished.
   abbrev pub IsHaltedOrServed : List TraceEvent → Type 0
   IsHaltedOrServed h = (IsHalted disk slots_ghosts old new p h status × (new.answered ≡ old.answered) × (new.waiting ≡ old.waiting) ×
@@ -96,10 +100,11 @@ module _ {D : Type 0} (disk : a_disk.Ghosts D) (content : Option Content) (most 
   EndsInOrder h (inl halted) = EndsCall status
   EndsInOrder h (inr served) = IsInOrder most served.8.rounds served.8.last status old.library new.library
 
-module _ {D : Type 0} (disk : a_disk.Ghosts D) (content : Option Content) (old new : Outside D) (result : Status) where
+module _ {D : Type 0} (disk : a_disk.Ghosts D) (content : Content) (old new : Outside D) (result : Status) where
   -- From the start of a call with this device that is to take so many turns. Stray files are swept. Then its pending deployment goes on,
   -- where it has one, and either ends the call, or closes and the set is served: it is brought up, and one round after another the inbox
-  -- is asked once. Each document is that which came next, and has what is promised of one, for the device of its round; it is done once
+  -- is asked once. Each document is that which came next, and has what is promised of one, for the device of its round; a fault of the disk or want
+  -- of memory before its record is its line, the disk's only where its count rose in the round; it is done once
   -- before the next question. The lines of the rounds stand in their order.
   pub record IsServedOn (d : Device) (turns : ℕ) : Type 0 where
     pub state : SessionState

@@ -1,10 +1,11 @@
 -- What `workload` answers.
-use Rattle.std.specs.Prelude.{◌≡◌, ◌≢◌, ◌⊎◌, ℕ, false, List, [], ◌∷◌, Some, None, Result, codes, ⊤}
+use Rattle.std.specs.Prelude.{◌≡◌, ◌≢◌, ◌⊎◌, ℕ, true, false, List, [], ◌∷◌, Some, None, Result, codes, ⊤}
 use Rattle.std.specs.Option.{IsSome}
 use Rattle.disk_model.specs.Disk.{Image}
 use Rattle.nuc_base.specs.declared.status.Status.{Status}
 use Rattle.nuc_base.specs.declared.status.Status.TheVariants as status
 use Rattle.library_core.specs.Library.{Content}
+use Rattle.library_core.specs.Nothing.{no_artifacts}
 use Rattle.records.specs.declared.record.Origin.{Origin}
 use Rattle.records.specs.declared.record.Plan as code
 use Rattle.device.specs.Devices.{Device}
@@ -39,7 +40,7 @@ workload_origin = record {
 
 -- its library: the drawn recipes, and no artifact
 abbrev pub drawn_content : ℕ → Content
-drawn_content seed = record { recipes = (recipes_from seed).value; artifact = λ name version file. None }
+drawn_content seed = record { recipes = Some (recipes_from seed).value; artifacts = Some no_artifacts; tells = true }
 
 -- the journal of the image stands for this device, which was begun
 abbrev pub IsBegunAs : Image → Device → Type 0
@@ -51,10 +52,10 @@ pub record IsDeployment (content : Content) (document : List ℕ) (d e : Device)
   pub idle : d.pending ≡ None
   pub origin : Origin
   pub origin_is : d.origin ≡ Some origin
-  pub before : ℕ
-  pub after : ℕ
   pub taken : Result code.Plan Declined
-  pub takes : TakesBy (AskOutcome ask.Document document) d origin (Some content) before after taken
+  -- the library failed nothing: its count of faults is one before and after
+  pub count : ℕ
+  pub takes : TakesBy (AskOutcome ask.Document document) d origin content count count taken
   pub state : SessionState
   pub serves : state.serves ≡ false
   pub device_is : state.device ≡ d

@@ -45,6 +45,8 @@ pub enum Answer {
     NotInitialised,
     /// The journal stands for no device, by the fault at this place in decimal digits.
     Damaged(Text),
+    /// It stands for none, as this text says, which begins with what the program is.
+    Unreadable(Text),
     /// The journal stands for a device of this thing.
     Initialised(Label),
     NoMemory,
@@ -74,6 +76,7 @@ impl Answer {
             Answer::LibraryFailed => Status::Library,
             Answer::NotInitialised => Status::NotInitialised,
             Answer::Damaged(_) => Status::Damaged,
+            Answer::Unreadable(_) => Status::Damaged,
             Answer::Initialised(_) => Status::Initialised,
             Answer::NoMemory => Status::Memory,
         }
@@ -110,6 +113,7 @@ impl Answer {
             Answer::Damaged(place) => {
                 write_pieces(sink, &["refused 9 Damaged ", place.as_str(), "\n"])
             }
+            Answer::Unreadable(text) => write_pieces(sink, &[text.as_str()]),
             Answer::Initialised(thing) => {
                 write_pieces(sink, &["refused 16 Initialised ", thing.as_str(), "\n"])
             }

@@ -35,7 +35,9 @@ fn asked_by(order: Order) -> Asked
         | Order::Workload(_)
         | Order::Audit
         | Order::ConfigGet(..)
-        | Order::Why => Asked::Other,
+        | Order::Why
+        | Order::Components
+        | Order::About => Asked::Other,
     }
 }
 

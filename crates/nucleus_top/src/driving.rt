@@ -1,5 +1,6 @@
 // The commands that drive a deployment: those that deploy what the source has, and `resume`.
 ghost use Rattle.std.specs.Prelude.{◌≡◌, ◌≢◌, ◌⊎◌, ◌≤◌, [], ℕ, List, IsTrue, IfOk, IfErr, IsErrOf};
+ghost use Rattle.library_core.specs.Library.{StaysTold};
 ghost use Rattle.admission.specs.Requests.{IsInside, AskOutcome};
 ghost use Rattle.admission.specs.declared.ask.Ask.TheVariants as asks;
 ghost use Rattle.deployment_doc.specs.Sound.{AreSound};
@@ -178,7 +179,7 @@ fn deploy_made<D: Disk, L: Library, K: Sink, R: Runner>(
     ensures library { result ≡ statuses.Library → Rose (L.faults library.old) (L.faults library.new) }
     ensures library_quiet { result ≢ statuses.Library → result ≢ statuses.Edge → L.faults library.new ≡ L.faults library.old }
     ensures library_later { L.faults library.old ≤ L.faults library.new }
-    ensures kept { L.content library.new ≡ L.content library.old }
+    ensures kept { StaysTold L.content L.coming library.old library.new }
     // No stray file is left where none was there at the start.
     ensures swept { (IsTrue D.is_modelled → IsSwept (items_of (idle_device idle)) (D.seen disk.old)) → LeavesNoStray D.is_modelled slots_entries result
         (D.seen disk.new) }
@@ -226,7 +227,7 @@ fn deploy_bytes<D: Disk, L: Library, K: Sink, R: Runner>(
     ensures library { result ≡ statuses.Library → Rose (L.faults library.old) (L.faults library.new) }
     ensures library_quiet { result ≢ statuses.Library → result ≢ statuses.Edge → L.faults library.new ≡ L.faults library.old }
     ensures library_later { L.faults library.old ≤ L.faults library.new }
-    ensures kept { L.content library.new ≡ L.content library.old }
+    ensures kept { StaysTold L.content L.coming library.old library.new }
     ensures unasked { (name : List ℕ) → what.now ≡ asks.Change name → library.new ≡ library.old }
     // No stray file is left where none was there at the start.
     ensures swept { (IsTrue D.is_modelled → IsSwept (items_of (idle_device idle)) (D.seen disk.old)) → LeavesNoStray D.is_modelled slots_entries result
@@ -266,7 +267,7 @@ fn deploy_read<D: Disk, L: Library, S: Source, K: Sink, R: Runner>(
     ensures library { result ≡ statuses.Library → Rose (L.faults library.old) (L.faults library.new) }
     ensures library_quiet { result ≢ statuses.Library → result ≢ statuses.Edge → L.faults library.new ≡ L.faults library.old }
     ensures library_later { L.faults library.old ≤ L.faults library.new }
-    ensures kept { L.content library.new ≡ L.content library.old }
+    ensures kept { StaysTold L.content L.coming library.old library.new }
     ensures unasked { (name : List ℕ) → what.now ≡ asks.Change name → library.new ≡ library.old }
     // No stray file is left where none was there at the start.
     ensures swept { (IsTrue D.is_modelled → IsSwept (items_of (idle_device idle)) (D.seen disk.old)) → LeavesNoStray D.is_modelled slots_entries result
@@ -322,7 +323,7 @@ pub(crate) fn deploy<D: Disk, L: Library, S: Source, K: Sink, R: Runner>(
     ensures library { result ≡ statuses.Library → Rose (L.faults library.old) (L.faults library.new) }
     ensures library_quiet { result ≢ statuses.Library → result ≢ statuses.Edge → L.faults library.new ≡ L.faults library.old }
     ensures library_later { L.faults library.old ≤ L.faults library.new }
-    ensures kept { L.content library.new ≡ L.content library.old }
+    ensures kept { StaysTold L.content L.coming library.old library.new }
     ensures unasked { (name : List ℕ) → what.now ≡ asks.Change name → library.new ≡ library.old }
     ensures swept { LeavesNoStray D.is_modelled slots_entries result (D.seen disk.new) }
     ensures edge { result ≡ statuses.Edge → Rose (S.faults source.old) (S.faults source.new) ⊎ Rose (K.faults sink.old) (K.faults sink.new) }

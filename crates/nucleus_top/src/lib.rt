@@ -4,14 +4,16 @@
 //! printed, what the disk holds afterwards and what a crash may leave at each moment; and of the commands that drive a
 //! deployment, over every runner, what happens in their call. Laws say what holds however many calls are made, each over
 //! what the one before it left. It stands on `command_words` for what words ask, on `deploy_state` over `checkpoint_log` for
-//! the store, on `status_text` for its status, on `artifact_store` for its files, on `plan_core` and `refusal_lines` for
-//! plans, on `session` and `session_serving` over `supervisor` for what is driven, and on `edges`, `disk_model`, `library_core` and
-//! `step_runner` for the devices.
+//! the store and on `store_root` for what is told of a journal unreplayed, on `status_text` for its status, on `artifact_store`
+//! for its files, on `plan_core` and `refusal_lines` for plans, on `session` and `session_serving` over `supervisor` for what is
+//! driven, and on `edges`, `disk_model`, `library_core` and `step_runner` for the devices.
 #![tactic(auto)]
 
+mod about;
 mod answer;
 mod asking;
 mod auditing;
+mod components;
 mod config_getting;
 mod driving;
 mod explanation;

@@ -1,17 +1,20 @@
-// The commands that drive no component: `init`, `status`, `plan`, `audit`, `config-get`, `why` and `workload`.
+// The commands that drive no component: `init`, `status`, `plan`, `audit`, `config-get`, `why`, `components`, `about` and `workload`.
 ghost use Rattle.std.specs.Prelude.{◌≡◌, ◌≢◌, ◌≤◌, ℕ, List, map, string_bytes, IsTrue};
 ghost use Rattle.disk_model.specs.Disk.{HasLeft};
 ghost use Rattle.nuc_base.specs.declared.status.Status.TheVariants as status;
 ghost use Rattle.command_words.specs.declared.order.Order.{Order};
 ghost use Rattle.command_words.specs.declared.order.Order.TheVariants as order;
 ghost use Rattle.edges.specs.Reading.{ReadsUpTo};
+ghost use Rattle.library_core.specs.Library.{StaysTold};
 ghost use Rattle.nucleus_top.specs.Words.{AsksOrder};
 ghost use Rattle.nucleus_top.specs.Answers.{store_over, input_over, shelf_over, printed_over, IsQuiet, IsStill};
 ghost use Rattle.nucleus_top.specs.Leaving.{IsDurable, IsDurableIfDone, MayLeave, files_of};
-ghost use Rattle.nucleus_top.specs.Parts.{WordsAnswer, Parts};
+ghost use Rattle.nucleus_top.specs.Parts.{WordsAnswer, Parts, setting_of};
 
+use crate::about::about;
 use crate::answer::Answer;
 use crate::auditing::audit;
+use crate::components::components;
 use crate::config_getting::get;
 use crate::init::init;
 use crate::planning::plan;
@@ -29,12 +32,13 @@ use std::alloc::Global;
 #[tactic(auto, using(crate::proofs::Reading::reads_none))]
 fn answer<D: Disk, L: Library, S: Source>(
     alloc: Global,
+    version: &str,
     words: &Vec<String>,
     disk: &mut D,
     library: &mut L,
     source: &mut S,
 ) -> Answer
-    ensures comes { WordsAnswer (map string_bytes words.now.items) (store_over D.Disk disk.old disk.new)
+    ensures comes { WordsAnswer (setting_of version.now (D.writer disk.old)) (map string_bytes words.now.items) (store_over D.Disk disk.old disk.new)
         (input_over S.Source source.old source.new) (shelf_over L.Library library.old library.new) result }
     ensures quiet { IsQuiet (store_over D.Disk disk.old disk.new) (input_over S.Source source.old source.new) result }
     ensures still { IsStill (shelf_over L.Library library.old library.new) result }
@@ -44,7 +48,7 @@ fn answer<D: Disk, L: Library, S: Source>(
         → library.new ≡ library.old }
     // `workload` does not touch the disk.
     ensures alone { (seed : ℕ) → AsksOrder (map string_bytes words.now.items) (order.Workload seed) → disk.new ≡ disk.old }
-    ensures kept { L.content library.new ≡ L.content library.old }
+    ensures kept { StaysTold L.content L.coming library.old library.new }
     ensures moments { HasLeft D.moment D.left_since disk.old disk.new (MayLeave (map string_bytes words.now.items) (D.may_leave disk.old)) }
     ensures keeps { (order : Order) → AsksOrder (map string_bytes words.now.items) order →
         IsDurableIfDone order (D.may_leave disk.new) (D.seen disk.new) result }
@@ -69,6 +73,8 @@ fn answer<D: Disk, L: Library, S: Source>(
         Order::ConfigGet(name, at) => get(alloc, &name, &at, disk),
         Order::Workload(seed) => draw_workload(alloc, seed),
         Order::Why => why(alloc, disk, library, source),
+        Order::Components => components(alloc, disk),
+        Order::About => about(alloc, version, disk),
         // These drive components: they are dispatched before.
         Order::Deploy | Order::Resume | Order::Serve(_) | Order::Local | Order::ConfigSet(_) =>
             Answer::WrongWords,
@@ -79,13 +85,14 @@ fn answer<D: Disk, L: Library, S: Source>(
 /// ends with. Words that ask another command are wrong words here.
 pub(crate) fn look<D: Disk, L: Library, S: Source, K: Sink>(
     alloc: Global,
+    version: &str,
     words: &Vec<String>,
     disk: &mut D,
     library: &mut L,
     source: &mut S,
     sink: &mut K,
 ) -> Status
-    ensures parts { Parts (map string_bytes words.now.items) (store_over D.Disk disk.old disk.new)
+    ensures parts { Parts (setting_of version.now (D.writer disk.old)) (map string_bytes words.now.items) (store_over D.Disk disk.old disk.new)
         (input_over S.Source source.old source.new) (shelf_over L.Library library.old library.new)
         (printed_over K.Sink sink.old sink.new) result }
     // `plan` and `why` alone read from the source and ask the library.
@@ -95,7 +102,7 @@ pub(crate) fn look<D: Disk, L: Library, S: Source, K: Sink>(
         → library.new ≡ library.old }
     // `workload` does not touch the disk.
     ensures alone { (seed : ℕ) → AsksOrder (map string_bytes words.now.items) (order.Workload seed) → disk.new ≡ disk.old }
-    ensures library_kept { L.content library.new ≡ L.content library.old }
+    ensures library_kept { StaysTold L.content L.coming library.old library.new }
     // Whenever a crash comes during the call, it leaves an image that the start allowed, or what the command may make of one.
     ensures moments { HasLeft D.moment D.left_since disk.old disk.new (MayLeave (map string_bytes words.now.items) (D.may_leave disk.old)) }
     // Once the lines of finished work are printed, a crash does not undo it.
@@ -110,7 +117,7 @@ pub(crate) fn look<D: Disk, L: Library, S: Source, K: Sink>(
     ensures sink_later { K.faults sink.old ≤ K.faults sink.new }
 {
     words_ask_one_thing();
-    let answer = answer(alloc, words, disk, library, source);
+    let answer = answer(alloc, version, words, disk, library, source);
     let status = answer.tell(sink);
     drop(answer);
     status

@@ -3,6 +3,7 @@ ghost use Rattle.std.specs.Prelude.{◌≡◌, ◌≢◌, ◌≤◌, None};
 ghost use Rattle.std.specs.Option.{IsSome};
 ghost use Rattle.disk_model.specs.Disk.{HasLeft};
 ghost use Rattle.command_words.specs.declared.order.Order.TheVariants as order;
+ghost use Rattle.library_core.specs.Library.{StaysTold};
 ghost use Rattle.deploy_state.specs.Loading.{IsReady};
 ghost use Rattle.device.specs.Devices.{device_view, IsRegularDevice};
 ghost use Rattle.device.specs.Sound.{IsSound};
@@ -74,7 +75,7 @@ fn plan_idle<L: Library, S: Source>(
     ensures comes { PlanAnswerOn (device_view device.now) (input_over S.Source source.old source.new) (shelf_over L.Library library.old library.new)
         result }
     ensures still { IsStill (shelf_over L.Library library.old library.new) result }
-    ensures kept { L.content library.new ≡ L.content library.old }
+    ensures kept { StaysTold L.content L.coming library.old library.new }
     ensures quiet { result ≢ Answer.SourceFailed → S.faults source.new ≡ S.faults source.old }
     ensures library_later { L.faults library.old ≤ L.faults library.new }
     ensures read { ReadsUpTo 524289 (S.left source.old) (S.left source.new) }
@@ -112,7 +113,7 @@ fn plan_on<L: Library, S: Source>(
     ensures comes { PlanAnswerOn (device_view device.now) (input_over S.Source source.old source.new) (shelf_over L.Library library.old library.new)
         result }
     ensures still { IsStill (shelf_over L.Library library.old library.new) result }
-    ensures kept { L.content library.new ≡ L.content library.old }
+    ensures kept { StaysTold L.content L.coming library.old library.new }
     ensures quiet { result ≢ Answer.SourceFailed → S.faults source.new ≡ S.faults source.old }
     ensures library_later { L.faults library.old ≤ L.faults library.new }
     ensures read { ReadsUpTo 524289 (S.left source.old) (S.left source.new) }
@@ -134,7 +135,7 @@ fn plan_stored<T: HasDevice + Drop, L: Library, S: Source>(
     requires ready { IsReady (T.stands_for state) }
     ensures comes { PlanAnswerOn (T.stands_for state) (input_over S.Source source.old source.new) (shelf_over L.Library library.old library.new) result }
     ensures still { IsStill (shelf_over L.Library library.old library.new) result }
-    ensures kept { L.content library.new ≡ L.content library.old }
+    ensures kept { StaysTold L.content L.coming library.old library.new }
     ensures quiet { result ≢ Answer.SourceFailed → S.faults source.new ≡ S.faults source.old }
     ensures library_later { L.faults library.old ≤ L.faults library.new }
     ensures read { ReadsUpTo 524289 (S.left source.old) (S.left source.new) }
@@ -156,7 +157,7 @@ pub fn plan<D: Disk, L: Library, S: Source>(
         (shelf_over L.Library library.old library.new) result }
     ensures quiet { IsQuiet (store_over D.Disk disk.old disk.new) (input_over S.Source source.old source.new) result }
     ensures still { IsStill (shelf_over L.Library library.old library.new) result }
-    ensures kept { L.content library.new ≡ L.content library.old }
+    ensures kept { StaysTold L.content L.coming library.old library.new }
     ensures moments { HasLeft D.moment D.left_since disk.old disk.new (D.may_leave disk.old) }
     ensures keeps { IsDurableIfDone order.Plan (D.may_leave disk.new) (D.seen disk.new) result }
     ensures seen { D.seen disk.new ≡ D.seen disk.old }

@@ -1,9 +1,10 @@
 // The command that keeps a set up, and deploys what an inbox has.
 ghost use Rattle.std.specs.Prelude.{◌≡◌, ◌⊎◌, []};
 ghost use Rattle.checkpoint_log.specs.Slots.{slots_files};
+ghost use Rattle.library_core.specs.Library.{StaysTold};
 ghost use Rattle.nucleus_top.specs.Answers.{store_over};
 ghost use Rattle.nucleus_top.specs.Drives.{MayNotOpen};
-ghost use Rattle.nucleus_top.specs.Serving.{IsServed};
+ghost use Rattle.nucleus_top.specs.Serving.{IsQuietBefore, IsServed};
 ghost use Rattle.session_serving.specs.Causes.{IsCaused, observation};
 ghost use Rattle.nucleus_top.specs.Objects.{IsRefusedOver};
 ghost use Rattle.session_serving.specs.Parts.{outside};
@@ -34,13 +35,14 @@ pub(crate) fn serve<D: Disk, L: Library, I: Inbox, K: Sink, R: Runner>(
 ) -> Status
     requires none { R.living runner.old ≡ [] }
     ensures ran { (IsRefusedOver D.Disk K.Sink disk.old disk.new sink.old sink.new result (λ store answer. MayNotOpen store answer)
-        × (runner.new ≡ runner.old) × (library.new ≡ library.old) × (inbox.new ≡ inbox.old))
+        × (runner.new ≡ runner.old) × (library.new ≡ library.old) × (inbox.new ≡ inbox.old)
+        × IsQuietBefore (store_over D.Disk disk.old disk.new) result)
         ⊎ IsServed D.Disk (L.content library.old)
         (outside D.Disk K.Sink R.Runner L.Library I.Inbox disk.old sink.old runner.old library.old inbox.old)
         (outside D.Disk K.Sink R.Runner L.Library I.Inbox disk.new sink.new runner.new library.new inbox.new)
         result (store_over D.Disk disk.old disk.new) turns }
     ensures none { R.living runner.new ≡ [] }
-    ensures kept { L.content library.new ≡ L.content library.old }
+    ensures kept { StaysTold L.content L.coming library.old library.new }
     ensures caused { IsCaused D.is_modelled slots_files result
         (observation D.Disk K.Sink L.Library I.Inbox disk.old sink.old library.old inbox.old)
         (observation D.Disk K.Sink L.Library I.Inbox disk.new sink.new library.new inbox.new) }

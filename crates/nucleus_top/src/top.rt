@@ -1,6 +1,7 @@
 ghost use Rattle.std.specs.Prelude.{◌≡◌, ◌⊎◌, ◌≤◌, [], ℕ, List, map, string_bytes, IsTrue};
 ghost use Rattle.disk_model.specs.Disk.{HasLeft};
 ghost use Rattle.nuc_base.specs.declared.status.Status.TheVariants as status;
+ghost use Rattle.library_core.specs.Library.{StaysTold};
 ghost use Rattle.admission.specs.declared.ask.Ask.{Ask};
 ghost use Rattle.command_words.specs.Words.{IsOrder};
 ghost use Rattle.command_words.specs.declared.order.Order.{Order};
@@ -13,8 +14,8 @@ ghost use Rattle.nucleus_top.specs.Drives.{MayNotOpen};
 ghost use Rattle.nucleus_top.specs.Words.{AsksOrder};
 ghost use Rattle.nucleus_top.specs.Answers.{store_over, input_over, shelf_over, printed_over};
 ghost use Rattle.nucleus_top.specs.Leaving.{IsDurable, MayLeave, files_of};
-ghost use Rattle.nucleus_top.specs.Parts.{Parts};
-ghost use Rattle.nucleus_top.specs.Serving.{IsServed};
+ghost use Rattle.nucleus_top.specs.Parts.{Parts, setting_of};
+ghost use Rattle.nucleus_top.specs.Serving.{IsQuietBefore, IsServed};
 ghost use Rattle.checkpoint_log.specs.Slots.{slots_files};
 ghost use Rattle.session_serving.specs.Causes.{IsCaused, observation};
 ghost use Rattle.nucleus_top.specs.Objects.{IsDeployedFrom, IsRefusedOver, IsResumedOver};
@@ -40,10 +41,13 @@ use step_runner::Runner;
 /// device with the recipes of the library, `plan NAME VERSION` for each component and `boot NAME` for each bootstrap, or
 /// the first reason why it would not. `nucleus --root DIR why` makes the same checks up to the set, and prints `possible` where
 /// some set of the candidates is valid, or else why none is. `nucleus --root DIR config-get --component NAME`, with
-/// `--pointer P` or without, prints a node of a component's configuration. `nucleus --root DIR audit` compares the files of the device's artifacts with the
-/// digests that are kept, and prints `whole` or the first file that differs. `nucleus --root DIR workload --seed N` runs 32 deployments that are drawn from
-/// the seed over objects in memory, by what `deploy` does, and prints how they closed: it touches the sink alone. The clause `parts` says of these when each
-/// status comes, what it prints and what it leaves on the disk.
+/// `--pointer P` or without, prints a node of a component's configuration. `nucleus --root DIR audit` compares the files of the
+/// device's artifacts with the digests that are kept, and prints `whole` or the first file that differs. `nucleus --root DIR
+/// components` prints what another program says of the components that it runs, or `component NAME VERSION STOPPED` for each of
+/// the set. `nucleus --root DIR about` prints what the program is, whose version the caller gives, and what the store is, where
+/// there is one. `nucleus --root DIR workload --seed N` runs 32 deployments that are drawn from the seed over objects in memory,
+/// by what `deploy` does, and prints how they closed: it
+/// touches the sink alone. The clause `parts` says of these when each status comes, what it prints and what it leaves on the disk.
 ///
 /// `nucleus --root DIR deploy` reads one document from the source and deploys it: it prints `accepted ID` once the plan is
 /// stable, a line for each failure, and `closed ID OUTCOME`; or the first reason why the document is not taken.
@@ -63,6 +67,7 @@ use step_runner::Runner;
 /// what happens, when the refusals of a journal come, and when 5 and 6. It reads nothing of the source.
 pub fn nucleus<D: Disk, L: Library, S: Source, I: Inbox, K: Sink, R: Runner>(
     alloc: Global,
+    version: &str,
     words: &Vec<String>,
     disk: &mut D,
     library: &mut L,
@@ -74,7 +79,7 @@ pub fn nucleus<D: Disk, L: Library, S: Source, I: Inbox, K: Sink, R: Runner>(
     // No child lives yet.
     requires none { R.living runner.old ≡ [] }
     ensures parts { (AsksToDrive (map string_bytes words.now.items) → ⊥) →
-        Parts (map string_bytes words.now.items) (store_over D.Disk disk.old disk.new)
+        Parts (setting_of version.now (D.writer disk.old)) (map string_bytes words.now.items) (store_over D.Disk disk.old disk.new)
         (input_over S.Source source.old source.new) (shelf_over L.Library library.old library.new)
         (printed_over K.Sink sink.old sink.new) result }
     // The commands that deploy what the source has, `plan` and `why` alone read from it. They and `serve` ask the library, but for a
@@ -86,7 +91,7 @@ pub fn nucleus<D: Disk, L: Library, S: Source, I: Inbox, K: Sink, R: Runner>(
     ensures uninboxed { (AsksToServe (map string_bytes words.now.items) → ⊥) → inbox.new ≡ inbox.old }
     // `workload` does not touch the disk.
     ensures alone { (seed : ℕ) → AsksOrder (map string_bytes words.now.items) (order.Workload seed) → disk.new ≡ disk.old }
-    ensures library_kept { L.content library.new ≡ L.content library.old }
+    ensures library_kept { StaysTold L.content L.coming library.old library.new }
     // Whenever a crash comes during the call, it leaves an image that the start allowed, or what the command may make of one.
     ensures moments { (AsksToDrive (map string_bytes words.now.items) → ⊥) → HasLeft D.moment D.left_since disk.old disk.new
         (MayLeave (map string_bytes words.now.items) (D.may_leave disk.old)) }
@@ -112,7 +117,8 @@ pub fn nucleus<D: Disk, L: Library, S: Source, I: Inbox, K: Sink, R: Runner>(
     // `serve`: so it is with the pending deployment, where there is one, and then with the set and the documents of the inbox.
     ensures serves { (turns : ℕ) → AsksToServeTurns (map string_bytes words.now.items) turns →
         (IsRefusedOver D.Disk K.Sink disk.old disk.new sink.old sink.new result (λ store answer. MayNotOpen store answer)
-        × (runner.new ≡ runner.old) × (library.new ≡ library.old) × (inbox.new ≡ inbox.old))
+        × (runner.new ≡ runner.old) × (library.new ≡ library.old) × (inbox.new ≡ inbox.old)
+        × IsQuietBefore (store_over D.Disk disk.old disk.new) result)
         ⊎ IsServed D.Disk (L.content library.old)
         (outside D.Disk K.Sink R.Runner L.Library I.Inbox disk.old sink.old runner.old library.old inbox.old)
         (outside D.Disk K.Sink R.Runner L.Library I.Inbox disk.new sink.new runner.new library.new inbox.new)
@@ -148,7 +154,7 @@ pub fn nucleus<D: Disk, L: Library, S: Source, I: Inbox, K: Sink, R: Runner>(
         Asked::Deploy(what) => deploy(alloc, &what, disk, library, source, sink, runner),
         Asked::Resume => resume(alloc, disk, sink, runner),
         Asked::Serve(turns) => serve(alloc, turns, disk, library, inbox, sink, runner),
-        Asked::Other => look(alloc, words, disk, library, source, sink),
+        Asked::Other => look(alloc, version, words, disk, library, source, sink),
         Asked::NoMemory => Status::Memory,
     }
 }

@@ -1,6 +1,6 @@
 -- The checks of a document, as the calls make them.
 use Rattle.std.proofs.Common.{◌≡◌, ◌⊎◌, ℕ, List, [], ◌∷◌, refl, sym, ap, subst, inl, inr}
-use Rattle.std.specs.Prelude.{Option, Some, Result, Ok, Err}
+use Rattle.std.specs.Prelude.{Result, Ok, Err}
 use Rattle.std.specs.Result.{IsErrAnd}
 use Rattle.nuc_base.specs.Faults.{Rose}
 use Rattle.nuc_base.specs.declared.kinds.Policy.TheVariants as policies
@@ -19,7 +19,7 @@ use Rattle.deployment_doc.specs.declared.fault.DocFault.{DocFault}
 use Rattle.deployment_doc.specs.declared.fault.DocFault.TheVariants as doc
 use Rattle.plan_core.specs.Checks.{Check, Reading, Opening, Ageing, Gathering, Room, Planning}
 use Rattle.plan_core.specs.Checks.{Facts, facts, RefusalOf, DraftOfChecks, DeviceChecks}
-use Rattle.plan_core.specs.Checks.{DraftOfDocument, ProposesRead, AreCandidatesOf, plan_checks, read_checks}
+use Rattle.plan_core.specs.Checks.{DraftOfDocument, ProposesRead, AreCandidatesOf, IsGatherFault, plan_checks, read_checks}
 use Rattle.plan_core.specs.Checks.{document_refusal, gather_refusal, plan_refusal}
 use Rattle.plan_core.specs.Plans.{IsRefused}
 use Rattle.plan_core.specs.Ready.{IsOpen, IsFresh}
@@ -39,7 +39,7 @@ comes_err : (f : Facts) (checks : List Check) (a : Refusal) (result : Result cod
 comes_err f checks a (Ok draft) h s = absurd h
 comes_err f checks a (Err e) h s = subst (RefusalOf f checks) (sym h) s
 
-module _ (d : Device) (o : Origin) (content : Option Content) (before after : ℕ) (document : Document) where
+module _ (d : Device) (o : Origin) (content : Content) (before after : ℕ) (document : Document) where
   pub open_stops : (checks : List Check) (cs : List Candidate) (draft : Draft) (a : Refusal) → DeviceChecks d document (Err a) →
       RefusalOf (facts d o content before after document cs draft) (Opening ∷ Ageing ∷ checks) a
   open_stops checks cs draft a (inl memory) = inl memory
@@ -56,20 +56,19 @@ module _ (d : Device) (o : Origin) (content : Option Content) (before after : �
   )
 
   pub gather_stops : (checks : List Check) (cs : List Candidate) (draft : Draft) (fault : CandidatesFault) → IsOpen d document → IsFresh d document
-      → (fault ≡ gather.Library → Rose before after) → ((l : Content) → content ≡ Some l → Gathered l.recipes o d.set (Err fault))
+      → IsGatherFault (facts d o content before after document cs draft) fault
       → RefusalOf (facts d o content before after document cs draft) (Opening ∷ Ageing ∷ Gathering ∷ checks) (gather_refusal fault)
-  gather_stops checks cs draft fault is_open fresh cause told =
-      inr (inr (is_open, inr (inr (fresh, inr (inl (fault, record { cause = cause; told = told }, refl))))))
+  gather_stops checks cs draft fault is_open fresh failed = inr (inr (is_open, inr (inr (fresh, inr (inl (fault, failed, refl))))))
 
   pub not_gathered : (fault : CandidatesFault) (result : Result code.Draft Refusal) → IsErrAnd result (λ e. e ≡ gather_refusal fault) → IsOpen d document →
       IsFresh d document
-      → (fault ≡ gather.Library → Rose before after) → ((l : Content) → content ≡ Some l → Gathered l.recipes o d.set (Err fault)) →
+      → IsGatherFault (facts d o content before after document [] no_draft) fault →
       DraftOfDocument d o content before after document result
-  not_gathered fault result h is_open fresh cause told = (
+  not_gathered fault result h is_open fresh failed = (
     [],
     no_draft,
     comes_err (facts d o content before after document [] no_draft) plan_checks (gather_refusal fault) result h
-        (gather_stops (Room ∷ Planning ∷ []) [] no_draft fault is_open fresh cause told),
+        (gather_stops (Room ∷ Planning ∷ []) [] no_draft fault is_open fresh failed),
   )
 
   refused_stops : (cs : List Candidate) (draft : Draft) (f : PlanFault) → IsOpen d document → IsFresh d document →
@@ -110,7 +109,7 @@ pub unread_stops : (f : Facts) (bytes : List ℕ) (checks : List Check) (fault :
 unread_stops f bytes checks fault (inl memory) = inl (ap document_refusal memory)
 unread_stops f bytes checks fault (inr first) = inr (inl (fault, first, refl))
 
-pub not_read : (d : Device) (o : Origin) (content : Option Content) (before after : ℕ) (bytes : List ℕ) (fault : DocFault) (result : Result code.Draft Refusal)
+pub not_read : (d : Device) (o : Origin) (content : Content) (before after : ℕ) (bytes : List ℕ) (fault : DocFault) (result : Result code.Draft Refusal)
     → IsErrAnd result (λ e. e ≡ document_refusal fault) → (fault ≡ doc.NoMemory) ⊎ IsFault bytes fault → ProposesRead d o content before after bytes result
 not_read d o content before after bytes fault result h first = (
   no_document,

@@ -1,6 +1,6 @@
 -- The checks of what a document asks, as the calls make them.
 use Rattle.std.proofs.Common.{◌≡◌, ◌⊎◌, ℕ, List, [], ◌∷◌, refl, sym, subst, inl, inr}
-use Rattle.std.specs.Prelude.{Option, Some, Result, Ok, Err}
+use Rattle.std.specs.Prelude.{Result, Ok, Err}
 use Rattle.std.specs.Result.{IsErrAnd}
 use Rattle.nuc_base.specs.Faults.{Rose}
 use Rattle.nuc_base.specs.Tables.{IsFirst}
@@ -16,7 +16,7 @@ use Rattle.deployment_doc.specs.declared.document.Document.{Document}
 use Rattle.deployment_doc.specs.declared.fault.DocFault.{DocFault}
 use Rattle.deployment_doc.specs.declared.fault.DocFault.TheVariants as doc
 use Rattle.plan_core.specs.Checks.{Facts, Check, Gathering, Room, facts}
-use Rattle.plan_core.specs.Checks.{RefusalOf, DeviceChecks, AreCandidatesOf, document_refusal, gather_refusal, plan_refusal}
+use Rattle.plan_core.specs.Checks.{RefusalOf, DeviceChecks, AreCandidatesOf, IsGatherFault, document_refusal, gather_refusal, plan_refusal}
 use Rattle.plan_core.specs.Plans.{room_lines}
 use Rattle.plan_core.specs.Questions.{QuestionOfChecks, QuestionOfDocument, QuestionsRead, question_checks, question_read_checks}
 use Rattle.plan_core.specs.Ready.{IsOpen, IsFresh}
@@ -31,7 +31,7 @@ asks_err : (f : Facts) (checks : List Check) (a : Refusal) (result : Result Ques
 asks_err f checks a (Ok q) h s = absurd h
 asks_err f checks a (Err e) h s = subst (RefusalOf f checks) (sym h) s
 
-module _ (d : Device) (o : Origin) (content : Option Content) (before after : ℕ) (document : Document) where
+module _ (d : Device) (o : Origin) (content : Content) (before after : ℕ) (document : Document) where
   pub not_open : (a : Refusal) (result : Result Question Refusal) → IsErrAnd result (λ e. e ≡ a) → DeviceChecks d document (Err a) →
       QuestionOfDocument d o content before after document result
   not_open a result h opens = (
@@ -43,13 +43,13 @@ module _ (d : Device) (o : Origin) (content : Option Content) (before after : �
 
   pub not_gathered : (fault : CandidatesFault) (result : Result Question Refusal) → IsErrAnd result (λ e. e ≡ gather_refusal fault) → IsOpen d document →
       IsFresh d document
-      → (fault ≡ gather.Library → Rose before after) → ((l : Content) → content ≡ Some l → Gathered l.recipes o d.set (Err fault)) →
+      → IsGatherFault (facts d o content before after document [] no_draft) fault →
       QuestionOfDocument d o content before after document result
-  not_gathered fault result h is_open fresh cause told = (
+  not_gathered fault result h is_open fresh failed = (
     [],
     no_draft,
     asks_err (facts d o content before after document [] no_draft) question_checks (gather_refusal fault) result h
-        (gather_stops d o content before after document (Room ∷ []) [] no_draft fault is_open fresh cause told),
+        (gather_stops d o content before after document (Room ∷ []) [] no_draft fault is_open fresh failed),
   )
 
   pub no_room : (cs : List Candidate) (f : PlanFault) (result : Result Question Refusal) → IsErrAnd result (λ e. e ≡ plan_refusal f) → IsOpen d document →
@@ -77,7 +77,7 @@ module _ (d : Device) (o : Origin) (content : Option Content) (before after : �
       → QuestionsRead d o content before after bytes result
   read_first bytes result reads q = (document, q.0, q.1, read_on bytes (facts d o content before after document q.0 q.1) result reads q.2)
 
-pub not_read : (d : Device) (o : Origin) (content : Option Content) (before after : ℕ) (bytes : List ℕ) (fault : DocFault) (result : Result Question Refusal)
+pub not_read : (d : Device) (o : Origin) (content : Content) (before after : ℕ) (bytes : List ℕ) (fault : DocFault) (result : Result Question Refusal)
     → IsErrAnd result (λ e. e ≡ document_refusal fault) → (fault ≡ doc.NoMemory) ⊎ IsFault bytes fault → QuestionsRead d o content before after bytes result
 not_read d o content before after bytes fault result h first = (
   no_document,

@@ -1,5 +1,5 @@
 -- The checks of a document in their order, up to its plan: the first that fails answers.
-use Rattle.std.specs.Prelude.{◌≡◌, ◌⊎◌, ℕ, List, [], ◌∷◌, Option, Some, None, Result, Ok, Err, MatchResult, ⊤}
+use Rattle.std.specs.Prelude.{◌≡◌, IsTrue, IsSome, ◌⊎◌, ℕ, List, [], ◌∷◌, Some, None, Result, Ok, Err, MatchResult, ⊤}
 use Rattle.std.specs.Str.{bytes_eq}
 use Rattle.std.specs.Map.{lookup}
 use Rattle.nuc_base.specs.Faults.{Rose}
@@ -8,7 +8,7 @@ use Rattle.nuc_base.specs.declared.kinds.Outcome.{Outcome}
 use Rattle.recipe_reader.specs.declared.candidate.Candidate.{Candidate}
 use Rattle.library_core.specs.Library.{Content}
 use Rattle.library_core.specs.Gathered.{IsGatheredOf, KeepBytes}
-use Rattle.library_core.specs.Faults.{Gathered}
+use Rattle.library_core.specs.Faults.{AreCounted, Gathered}
 use Rattle.library_core.specs.declared.fault.CandidatesFault.{CandidatesFault}
 use Rattle.library_core.specs.declared.fault.CandidatesFault.TheVariants as gather
 use Rattle.records.specs.Stored.{Draft, draft_view}
@@ -34,8 +34,8 @@ pub record Facts : Type 0 where
   pub device : Device
   pub origin : Origin
   pub document : Document
-  -- what the library holds, where it tells that
-  pub content : Option Content
+  -- what the library tells of what it holds when the call ends
+  pub content : Content
   pub candidates : List Candidate
   pub draft : Draft
   -- how often the library had failed when the call began, and when it ended
@@ -62,7 +62,8 @@ pub data Check : Type 0 where
 pub record AreCandidatesOf (f : Facts) : Type 0 where
   pub gathered : IsGatheredOf f.origin f.device.set f.candidates
   pub kept : KeepBytes f.device.set f.candidates
-  pub told : (l : Content) → f.content ≡ Some l → Gathered l.recipes f.origin f.device.set (Ok f.candidates)
+  pub told : (rs : List (List ℕ)) → f.content.recipes ≡ Some rs → Gathered rs f.origin f.device.set (Ok f.candidates)
+  pub tells : IsTrue f.content.tells → IsSome f.content.recipes
 
 abbrev pub HasCheckPassed : Facts → Check → Type 0
 HasCheckPassed f (Reading bytes) = ReadsDocument bytes (Ok f.document)
@@ -86,10 +87,11 @@ abbrev pub plan_refusal : PlanFault → Refusal
 plan_refusal plan.NoMemory = NoMemory
 plan_refusal fault = Plan fault
 
--- the library fails only where its count rose, and refuses by what it holds where it tells that
+-- the library fails only where its count rose, and refuses by the recipes that it tells
 pub record IsGatherFault (f : Facts) (fault : CandidatesFault) : Type 0 where
   pub cause : fault ≡ gather.Library → Rose f.before f.after
-  pub told : (l : Content) → f.content ≡ Some l → Gathered l.recipes f.origin f.device.set (Err fault)
+  pub told : (rs : List (List ℕ)) → f.content.recipes ≡ Some rs → Gathered rs f.origin f.device.set (Err fault)
+  pub tells : IsTrue f.content.tells → AreCounted (Err fault) → IsSome f.content.recipes
 
 abbrev pub HasCheckFailed : Facts → Check → Refusal → Type 0
 HasCheckFailed f (Reading bytes) a = (fault : DocFault) × IsFault bytes fault × (a ≡ document_refusal fault)
@@ -140,17 +142,17 @@ DeviceChecks d document result = MatchResult result
     ⊎ ((o : Outcome) × (lookup (bytes_eq document.id) d.closed ≡ Some o) × (a ≡ Repeated document.id o))
     ⊎ (IsOpen d document × (IsFresh d document → ⊥) × (a ≡ Stale document.id (revision_of document.group d.groups))))
 
-abbrev pub facts : Device → Origin → Option Content → ℕ → ℕ → Document → List Candidate → Draft → Facts
+abbrev pub facts : Device → Origin → Content → ℕ → ℕ → Document → List Candidate → Draft → Facts
 facts d origin content before after document cs draft =
     record { device = d; origin = origin; document = document; content = content; candidates = cs; draft = draft; before = before; after = after }
 
 -- what comes of a document, by some candidates and a draft
-abbrev pub DraftOfDocument : Device → Origin → Option Content → ℕ → ℕ → Document → Result code.Draft Refusal → Type 0
+abbrev pub DraftOfDocument : Device → Origin → Content → ℕ → ℕ → Document → Result code.Draft Refusal → Type 0
 DraftOfDocument d origin content before after document result =
     (cs : List Candidate) × (draft : Draft) × DraftOfChecks (facts d origin content before after document cs draft) plan_checks result
 
 -- what comes of the bytes of a document, by what they read as besides
-abbrev pub ProposesRead : Device → Origin → Option Content → ℕ → ℕ → List ℕ → Result code.Draft Refusal → Type 0
+abbrev pub ProposesRead : Device → Origin → Content → ℕ → ℕ → List ℕ → Result code.Draft Refusal → Type 0
 ProposesRead d origin content before after bytes result =
     (document : Document) × (cs : List Candidate) × (draft : Draft)
     × DraftOfChecks (facts d origin content before after document cs draft) (read_checks bytes) result

@@ -1,5 +1,5 @@
 -- What a document asks of the candidates that a device has with a library: the checks of a plan, up to the set.
-use Rattle.std.specs.Prelude.{◌≡◌, ℕ, List, [], ◌∷◌, Option, Result, Ok, Err}
+use Rattle.std.specs.Prelude.{◌≡◌, ℕ, List, [], ◌∷◌, Result, Ok, Err}
 use Rattle.recipe_reader.specs.Sets.{asked}
 use Rattle.recipe_reader.specs.declared.candidate.Candidate.{Candidate}
 use Rattle.library_core.specs.Library.{Content}
@@ -26,12 +26,12 @@ QuestionOfChecks f checks (Ok q) = (q.candidates ≡ f.candidates) × (asked q.w
 QuestionOfChecks f checks (Err a) = RefusalOf f checks a
 
 -- what a document asks, by some candidates. No check looks at the draft.
-abbrev pub QuestionOfDocument : Device → Origin → Option Content → ℕ → ℕ → Document → Result Question Refusal → Type 0
+abbrev pub QuestionOfDocument : Device → Origin → Content → ℕ → ℕ → Document → Result Question Refusal → Type 0
 QuestionOfDocument d origin content before after document result =
     (cs : List Candidate) × (draft : Draft) × QuestionOfChecks (facts d origin content before after document cs draft) question_checks result
 
 -- what the bytes of a document ask, by what they read as besides
-abbrev pub QuestionsRead : Device → Origin → Option Content → ℕ → ℕ → List ℕ → Result Question Refusal → Type 0
+abbrev pub QuestionsRead : Device → Origin → Content → ℕ → ℕ → List ℕ → Result Question Refusal → Type 0
 QuestionsRead d origin content before after bytes result =
     (document : Document) × (cs : List Candidate) × (draft : Draft) × QuestionOfChecks (facts d origin content before after document cs draft)
     (question_read_checks bytes) result

@@ -7,6 +7,7 @@ ghost use Rattle.device.specs.Sound.{IsSound};
 ghost use Rattle.deployment_doc.specs.Sound.{AreSound};
 ghost use Rattle.plan_core.specs.Ready.{IsFresh};
 ghost use Rattle.plan_core.specs.Checks.{DeviceChecks, OpensId, DraftOfDocument, ProposesRead};
+ghost use Rattle.library_core.specs.Library.{StaysTold};
 ghost use Rattle.library_core.specs.declared.fault.CandidatesFault.TheVariants.{Library as LibraryFailed};
 
 use crate::fault::Refusal;
@@ -63,9 +64,9 @@ pub fn propose<L: Library>(
     requires sound { IsSound (device_view device.now) }
     requires regular { IsRegularDevice (device_view device.now) }
     requires roots { AreSound document.now.roots }
-    ensures proposes { (o : Origin) → device.now.origin ≡ Some o → DraftOfDocument (device_view device.now) o (L.content library.old) (L.faults library.old)
+    ensures proposes { (o : Origin) → device.now.origin ≡ Some o → DraftOfDocument (device_view device.now) o (L.content library.new) (L.faults library.old)
         (L.faults library.new) document.now result }
-    ensures kept { L.content library.new ≡ L.content library.old }
+    ensures kept { StaysTold L.content L.coming library.old library.new }
     ensures cause { IsErrOf result (Refusal.Candidates LibraryFailed) → Rose (L.faults library.old) (L.faults library.new) }
     ensures quiet { ¬ (IsErrOf result (Refusal.Candidates LibraryFailed)) → L.faults library.new ≡ L.faults library.old }
     ensures later { L.faults library.old ≤ L.faults library.new }
@@ -90,9 +91,9 @@ pub fn propose_read<L: Library>(
     requires idle { device.now.pending ≡ None }
     requires sound { IsSound (device_view device.now) }
     requires regular { IsRegularDevice (device_view device.now) }
-    ensures proposes { (o : Origin) → device.now.origin ≡ Some o → ProposesRead (device_view device.now) o (L.content library.old) (L.faults library.old)
+    ensures proposes { (o : Origin) → device.now.origin ≡ Some o → ProposesRead (device_view device.now) o (L.content library.new) (L.faults library.old)
         (L.faults library.new) bytes.now result }
-    ensures kept { L.content library.new ≡ L.content library.old }
+    ensures kept { StaysTold L.content L.coming library.old library.new }
     ensures cause { IsErrOf result (Refusal.Candidates LibraryFailed) → Rose (L.faults library.old) (L.faults library.new) }
     ensures quiet { ¬ (IsErrOf result (Refusal.Candidates LibraryFailed)) → L.faults library.new ≡ L.faults library.old }
     ensures later { L.faults library.old ≤ L.faults library.new }

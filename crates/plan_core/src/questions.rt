@@ -5,6 +5,7 @@ ghost use Rattle.records.specs.declared.record.Origin.{Origin};
 ghost use Rattle.device.specs.Devices.{device_view};
 ghost use Rattle.device.specs.Sound.{IsSound};
 ghost use Rattle.plan_core.specs.Questions.{QuestionOfDocument, QuestionsRead};
+ghost use Rattle.library_core.specs.Library.{StaysTold};
 ghost use Rattle.library_core.specs.declared.fault.CandidatesFault.TheVariants.{Library as LibraryFailed};
 
 use crate::fault::Refusal;
@@ -38,9 +39,9 @@ pub fn ask<L: Library>(
 ) -> Result<Question, Refusal>
     requires origin { IsSome device.now.origin }
     requires sound { IsSound (device_view device.now) }
-    ensures asks { (o : Origin) → device.now.origin ≡ Some o → QuestionOfDocument (device_view device.now) o (L.content library.old) (L.faults library.old)
+    ensures asks { (o : Origin) → device.now.origin ≡ Some o → QuestionOfDocument (device_view device.now) o (L.content library.new) (L.faults library.old)
         (L.faults library.new) document.now result }
-    ensures kept { L.content library.new ≡ L.content library.old }
+    ensures kept { StaysTold L.content L.coming library.old library.new }
     ensures cause { IsErrOf result (Refusal.Candidates LibraryFailed) → Rose (L.faults library.old) (L.faults library.new) }
     ensures quiet { ¬ (IsErrOf result (Refusal.Candidates LibraryFailed)) → L.faults library.new ≡ L.faults library.old }
     ensures later { L.faults library.old ≤ L.faults library.new }
@@ -64,9 +65,9 @@ pub fn ask_read<L: Library>(
 ) -> Result<Question, Refusal>
     requires origin { IsSome device.now.origin }
     requires sound { IsSound (device_view device.now) }
-    ensures asks { (o : Origin) → device.now.origin ≡ Some o → QuestionsRead (device_view device.now) o (L.content library.old) (L.faults library.old)
+    ensures asks { (o : Origin) → device.now.origin ≡ Some o → QuestionsRead (device_view device.now) o (L.content library.new) (L.faults library.old)
         (L.faults library.new) bytes.now result }
-    ensures kept { L.content library.new ≡ L.content library.old }
+    ensures kept { StaysTold L.content L.coming library.old library.new }
     ensures cause { IsErrOf result (Refusal.Candidates LibraryFailed) → Rose (L.faults library.old) (L.faults library.new) }
     ensures quiet { ¬ (IsErrOf result (Refusal.Candidates LibraryFailed)) → L.faults library.new ≡ L.faults library.old }
     ensures later { L.faults library.old ≤ L.faults library.new }

@@ -96,7 +96,7 @@ none_behind o c None may = absurd may
 none_behind o c (Some q) may = refl
 
 -- behind a close nothing is pending
-closed_none : (d e : Device) (o : Outcome) (records : List Record) → ClosesAs o records → Run d records e → e.pending ≡ None
+pub closed_none : (d e : Device) (o : Outcome) (records : List Record) → ClosesAs o records → Run d records e → e.pending ≡ None
 closed_none d e o records closes run =
     let last = last_run d e closes.0 (Closed o) (subst (λ (l : List Record). Run d l e) closes.1 run) in
     ap (λ (x : Device). x.pending) last.1.leaves ∙ none_behind o last.0 last.0.pending last.1.allowed
@@ -143,8 +143,8 @@ pub ending_is : (J : Type 0) (e : SessionFault) (ending : Ending) → DrivenEndi
 ending_is J over.Disk ending is = is
 ending_is J over.Output ending is = is
 
-begun_fed : (ending : Ending) → IsBegun ending → ending ≢ WantBefore
-begun_fed ending begun is = subst IsBegun is begun
+begun_memory : (ending : Ending) → IsBegun ending → ending ≢ WantBefore
+begun_memory ending begun is = subst IsBegun is begun
 
 over_ends : (p : SessionState) (e : SessionFault) (h : List TraceEvent) → EndsPart p (ending_over e) h
 over_ends p over.Disk h = tt
@@ -478,7 +478,7 @@ module _ {D J : Type 0} {is_modelled : Bool} {seen : D → Image} {may_leave : D
             after = after;
             ending = ending;
             answers = says.3;
-            prints = all_prints (StandsBehind entries may_leave new p (k ++ h)) u v w x p.device records ending status behind (begun_fed ending begun) started
+            prints = all_prints (StandsBehind entries may_leave new p (k ++ h)) u v w x p.device records ending status behind (begun_memory ending begun) started
                 (subst (λ (l : List Record). Appends v w (lines_of p.device l)) (sym same) course.lines) says.2;
             ends = driven_ends p h k q e.1.none device trace.run world told living y ending course.left says.1.0;
             left = subst (λ (z : SessionState). RanLeft p.generation ran (is_failing ending) z last now lives) (sym (left-append p k h))
@@ -617,15 +617,16 @@ module _ {D : Type 0} (entries : Image → List (List ℕ) → Type 0) (files : 
 
   -- the journal does not lie among the files of artifacts
   module _ (apart : LieElsewhere files) where
-    -- A plan is given back for want of memory, where the journal may have been begun anew with the device.
-    pub starved_parted : (old new : D) (l m : Option (List RunnerEntry)) (u v : Option (List ℕ)) (p : SessionState) (status : Status)
-        (leaves : Ending → SessionState → Type 0) (plan : Plan) (k : List TraceEvent) → status ≡ statuses.Memory
+    -- A plan is given back, where the journal may have been begun anew with the device: there is no memory, or the disk makes no room.
+    pub returned_parted : (old new : D) (l m : Option (List RunnerEntry)) (u v : Option (List ℕ)) (p : SessionState) (status given : Status)
+        (leaves : Ending → SessionState → Type 0) (plan : Plan) (ending : Ending) (k : List TraceEvent) → status ≡ given
         → HasLeft moment left_since old new (LeavesSame may_leave files entries old p.device) → ((c : Image) → may_leave new c → StandsFor entries c p.device)
-        → ActTrace p k l m → IsUnbegun p k → v ≡ u → leaves WantBefore (state_after p k)
+        → ActTrace p k l m → IsUnbegun p k → IsOrEdge given (status_of_ending ending)
+        → LinesPrinted u v p.device [] ending given (StandsBehind entries may_leave new p []) → EndsPart p ending k → leaves ending (state_after p k)
         → (part : Part entries files may_leave moment left_since old new l m u v p status leaves)
-        × (part.ending ≡ WantBefore) × (records_of part.history ≡ []) ×
+        × (part.ending ≡ ending) × (records_of part.history ≡ []) ×
         (AllHoldBoth (may_leave old) p.device plan.items → HasFiles entries files may_leave moment left_since old new l m u v p status leaves part)
-    starved_parted old new l m u v p status leaves plan k same leaving stands acts unbegun silent left = (
+    returned_parted old new l m u v p status given leaves plan ending k same leaving stands acts unbegun answers prints ends left = (
       record {
         from = old;
         to = new;
@@ -633,12 +634,11 @@ module _ {D : Type 0} (entries : Image → List (List ℕ) → Type 0) (files : 
         history = k;
         trace = whole;
         after = start_spares laws (IsBelow artifacts) new;
-        ending = WantBefore;
-        answers = inl same;
-        prints = prints_as u v p.device (records_of k) WantBefore status statuses.Memory (StandsBehind entries may_leave new p [])
-            (StandsBehind entries may_leave new p k) acts.none same (λ sure. behind)
-            (starved_prints (StandsBehind entries may_leave new p []) u v p.device statuses.Memory stands silent);
-        ends = unbegun;
+        ending = ending;
+        answers = subst (λ (s : Status). IsOrEdge s (status_of_ending ending)) (sym same) answers;
+        prints = prints_as u v p.device (records_of k) ending status given (StandsBehind entries may_leave new p [])
+            (StandsBehind entries may_leave new p k) acts.none same (λ sure. behind) prints;
+        ends = ends;
         left = left;
         stands = most_of entries may_leave new p k whole.run behind;
         doubt = inl behind;
@@ -687,13 +687,13 @@ module _ {D : Type 0} (entries : Image → List (List ℕ) → Type 0) (files : 
         → KeepsRest (state_after p (Recorded (Accepted plan) ∷ [])) (state_after (state_after p (Recorded (Accepted plan) ∷ [])) k)
         → SaysLine v w status (line_of_ending (ending_over e)) → (e ≡ over.Output → w ≡ v) → GivenUpStatus e status
         → ((LeftAt entries may_leave new p (k ++ Recorded (Accepted plan) ∷ []) e) → leaves (ending_over e)
-        (state_after p (k ++ Recorded (Accepted plan) ∷ [])))
+        (state_after p (k ++ Recorded (Accepted plan) ∷ []))) → (Came : List Record → Type 0) → ((records : List Record) → Came records)
         → (t : (part : Part entries files may_leave moment left_since old new list now u w p status leaves) × PlanEnding start plan part.ending
-        (records_of part.history))
+        (records_of part.history) × Came (records_of part.history))
         × (AllHoldBoth (may_leave old) p.device plan.items → HasFiles entries files may_leave moment left_since old new list now u w p status leaves t.0)
         × (t.0.ending ≡ ending_over e) × (records_of t.0.history ≡ Accepted plan ∷ [])
     doubt_parted start e old new list now u v w p d world told living plan h k status leaves fits opens allowed notes none records run lines left acts
-        kills keeps says silent answers ends =
+        kills keeps says silent answers ends Came came =
         let one = Accepted plan ∷ [] in
         let on = Recorded (Accepted plan) ∷ [] in
         let device = one_device p.device (state_after p h).device (Accepted plan)
@@ -724,6 +724,7 @@ module _ {D : Type 0} (entries : Image → List (List ℕ) → Type 0) (files : 
               quits = λ gives. inr (over_stops entries may_leave new e p (k ++ on) behind);
             },
             begins_by start plan (ending_over e) (records_of (k ++ on)) [] (over_begun e) fits same tt,
+            came (records_of (k ++ on)),
           ),
           (λ holds. went_whole laws files entries apart old new list now p (k ++ on) trace
               (all_before (may_leave old) p.device plan (records_of (k ++ on)) [] same tt holds)),
@@ -772,23 +773,23 @@ module _ {D : Type 0} (entries : Image → List (List ℕ) → Type 0) (files : 
   }
 
   -- a plan that was taken in is driven
-  pub taken_behind : {X Y : Type 0} (start : ℕ → ℕ) (old mid new : D) (a b : Option (List RunnerEntry)) (u v : Option (List ℕ)) (p : SessionState)
+  pub taken_behind : {X Y : Type 0} (Came : List Record → Type 0) (start : ℕ → ℕ) (old mid new : D) (a b : Option (List RunnerEntry)) (u v : Option (List ℕ)) (p : SessionState)
       (status : Status) (leaves : Ending → SessionState → Type 0) (d : Device) (plan : code.Plan) → ChangesArtifactsAlone may_leave moment left_since old mid
       → (AllHoldDevice (may_leave old) p.device → (records : List Record) → HasLeft moment left_since old mid (StandsWhole entries p.device records))
       → (AllHoldDevice (may_leave old) p.device → AllHoldBoth (may_leave mid) p.device (plan_view plan).items)
       → (s : (part : Part entries files may_leave moment left_since mid new a b u v p status leaves) × PlanEnding start (plan_view plan) part.ending
-      (records_of part.history))
+      (records_of part.history) × Came (records_of part.history))
       × (AllHoldBoth (may_leave mid) p.device (plan_view plan).items → HasFiles entries files may_leave moment left_since mid new a b u v p status leaves s.0)
       × (s.0.ending ≡ ByDiskFault → X) × AcceptsFrom entries may_leave moment left_since mid new d start (plan_view plan) s.0.ending (records_of s.0.history)
       → (X → Y)
       → (t : (part : Part entries files may_leave moment left_since old new a b u v p status leaves) × TakenEnding start (Ok plan) part.ending
-      (records_of part.history))
+      (records_of part.history) × Came (records_of part.history))
       × (AllHoldDevice (may_leave old) p.device → HasFiles entries files may_leave moment left_since old new a b u v p status leaves t.0)
       × (t.0.ending ≡ ByDiskFault → Y) × AcceptsTaken entries may_leave moment left_since old new d start (Ok plan) t.0.ending (records_of t.0.history)
-  taken_behind start old mid new a b u v p status leaves d plan first whole gives drives on =
+  taken_behind Came start old mid new a b u v p status leaves d plan first whole gives drives on =
       let c = drives.0.0 in
       let is = StandsWhole entries p.device (records_of c.history) in (
-        (parted_behind old mid new a b u v p status leaves first c, drives.0.1),
+        (parted_behind old mid new a b u v p status leaves first c, drives.0.1, drives.0.2),
         (λ holds. joined laws old mid new is is is (whole holds (records_of c.history)) (drives.1 (gives holds)) (λ i w. w) (λ i w. w)),
         (λ fails. on (drives.2 fails)),
         accepts_behind entries laws old mid new (IsAfter (may_leave old) (IsSameBut (IsBelow artifacts))) first d start (plan_view plan) c.ending

@@ -83,25 +83,25 @@ opening_none a d none = subst (λ (o : Option Pending). Appends a a (elim o [ No
 
 lines_are : (d : Device) (records : List Record) (ending : Ending) → ending ≢ WantBefore → opening_line d ++ (lines_of d records ++ line_of_ending ending)
     ≡ call_lines d records ending
-lines_are d records (ByClose o) fed = refl
-lines_are d records (ByRestart id) fed = refl
-lines_are d records (ByReboot id) fed = refl
-lines_are d records ByDiskFault fed = refl
-lines_are d records BySinkFault fed = refl
-lines_are d records WantAfter fed = refl
-lines_are d records WantBefore fed = absurd (fed refl)
-lines_are d records (ByDecline x) fed = refl
-lines_are d records (Full at) fed = refl
-lines_are d records Idle fed = refl
+lines_are d records (ByClose o) memory = refl
+lines_are d records (ByRestart id) memory = refl
+lines_are d records (ByReboot id) memory = refl
+lines_are d records ByDiskFault memory = refl
+lines_are d records BySinkFault memory = refl
+lines_are d records WantAfter memory = refl
+lines_are d records WantBefore memory = absurd (memory refl)
+lines_are d records (ByDecline x) memory = refl
+lines_are d records (Full at) memory = refl
+lines_are d records Idle memory = refl
 
 -- the lines of some of the records, and one behind them
 told_prints : (sure : Type 0) (a b c e : Option (List ℕ)) (d : Device) (records told rest : List Record) (ending : Ending) (status : Status) →
     (rest ≡ [] → sure) → ending ≢ WantBefore → Appends a b (opening_line d) → Appends b c (lines_of d told)
     → records ≡ told ++ rest → length rest ≤ 1 → (ending ≢ ByDiskFault → rest ≡ []) → SaysLine c e status (line_of_ending ending) →
     LinesPrinted a e d records ending status sure
-told_prints sure a b c e d records told rest ending status stable fed before lines split few all says =
+told_prints sure a b c e d records told rest ending status stable memory before lines split few all says =
     let line = line_of_ending ending in
-    let same = lines_are d told ending fed in
+    let same = lines_are d told ending memory in
     record {
       printed_records = told;
       rest = rest;
@@ -119,13 +119,13 @@ told_prints sure a b c e d records told rest ending status stable fed before lin
 pub all_prints : (sure : Type 0) (a b c e : Option (List ℕ)) (d : Device) (records : List Record) (ending : Ending) (status : Status) → sure →
     ending ≢ WantBefore → Appends a b (opening_line d) → Appends b c (lines_of d records)
     → SaysLine c e status (line_of_ending ending) → LinesPrinted a e d records ending status sure
-all_prints sure a b c e d records ending status stable fed before lines says =
-    told_prints sure a b c e d records records [] ending status (λ none. stable) fed before lines (sym (append-nil records)) (omega arith) (λ other. refl) says
+all_prints sure a b c e d records ending status stable memory before lines says =
+    told_prints sure a b c e d records records [] ending status (λ none. stable) memory before lines (sym (append-nil records)) (omega arith) (λ other. refl) says
 
 -- no record was kept, and none was pending
 pub said_prints : (sure : Type 0) (a b : Option (List ℕ)) (d : Device) (ending : Ending) (status : Status) → sure → ending ≢ WantBefore → d.pending ≡ None →
     SaysLine a b status (line_of_ending ending) → LinesPrinted a b d [] ending status sure
-said_prints sure a b d ending status stable fed none says = all_prints sure a a a b d [] ending status stable fed (opening_none a d none) (Appends-nil a) says
+said_prints sure a b d ending status stable memory none says = all_prints sure a a a b d [] ending status stable memory (opening_none a d none) (Appends-nil a) says
 
 -- there was no memory to begin
 pub starved_prints : (sure : Type 0) (a b : Option (List ℕ)) (d : Device) (status : Status) → sure → b ≡ a → LinesPrinted a b d [] WantBefore status sure

@@ -1,7 +1,7 @@
 -- A whole call, made of a part and of the stop of all components behind it.
+use Rattle.std.specs.List.{AllByRecursion}
 use Rattle.std.specs.Prelude.{ℕ, Bool, true, false, List, [], ◌++◌, Option, None}
 use Rattle.std.proofs.Common.{◌≡◌, ◌⊎◌, ◌∙◌, inl, inr, refl, sym, ap, subst}
-use Rattle.std.proofs.lemmas.Bool.{false≢true}
 use Rattle.disk_model.specs.Disk.{Image}
 use Rattle.nuc_base.specs.declared.status.Status.{Status}
 use Rattle.records.specs.Stored.{Record}
@@ -11,7 +11,7 @@ use Rattle.step_runner.specs.Entries.{Told}
 use Rattle.step_runner.specs.declared.entries.RunnerEntry.{RunnerEntry}
 use Rattle.components.specs.Components.{Components, is_stopped}
 use Rattle.histories.specs.Courses.{IsEnd, gives_up}
-use Rattle.histories.specs.Phases.{Generation}
+use Rattle.histories.specs.Follows.{IsLast}
 use Rattle.histories.specs.TraceEvents.{TraceEvent, records_of}
 use Rattle.histories.specs.Once.{TakesOnce}
 use Rattle.histories.specs.States.{SessionState, state_after}
@@ -22,7 +22,7 @@ use Rattle.session_boots.specs.Traces.{ActTrace, StandsForMost}
 use Rattle.session_boots.specs.declared.ends.Booted.TheVariants as booted
 use Rattle.session_boots.proofs.Joins.{records_opened}
 use Rattle.session_startup.specs.Ended.{ClosesAs}
-use Rattle.session_rollout.proofs.Joining.{went_acting}
+use Rattle.session_rollout.proofs.Joining.{stops_killed, went_acting}
 use Rattle.session.specs.Calls.{Call, IsEndingOf, IsOrEdge, IsPendingAs, QuitsAt, StandsBehind}
 use Rattle.session.specs.Endings.{Ending, ByClose, ByRestart, ByReboot, ByDiskFault, BySinkFault, WantAfter, WantBefore, ByDecline, Full, Idle}
 use Rattle.session.specs.Endings.{is_failing, status_of_ending}
@@ -69,33 +69,21 @@ module _ (p : SessionState) (h k : List TraceEvent) (stopped : is_stopped p.worl
     ends_whole (Full at) e = none_both e
     ends_whole Idle e = (none_both e.0, pending_on e.1)
 
--- ---- where it gives up the part is the whole
+-- ---- where it gives up at most children are killed behind the part
 
-module _ {J : Type 0} (before : Generation) (r : Ran J) (rose : Bool) (q : SessionState) (world : Components) (told : Told) (living : List ℕ)
-    (k : List TraceEvent)
-  where
-    quit_last : RanLeft before r rose q world told living → (IsOver r → k ≡ []) → gives_up (status_of_ran r) ≡ true → k ≡ []
-    quit_last = by r
-      where
-        by : (r : Ran J) → RanLeft before r rose q world told living → (IsOver r → k ≡ []) → gives_up (status_of_ran r) ≡ true → k ≡ []
-        by (ran.Back s status standing) left over gives = absurd (false≢true (sym left.2 ∙ gives))
-        by (ran.Over status) left over gives = over tt
-
-stops_whole : (h k : List TraceEvent) → k ≡ [] → StopsAt h → StopsAt (k ++ h)
-stops_whole h k none stops = subst (λ (g : List TraceEvent). StopsAt (g ++ h)) (sym none) stops
-
-quits_whole : (p : SessionState) (h k : List TraceEvent) → is_stopped p.world ≡ true → k ≡ [] → QuitsPart p h → QuitsAt (k ++ h)
-quits_whole p h k stopped none (inl unbegun) = inl (ap (λ (g : List TraceEvent). g ++ h) none ∙ unbegun.1 stopped)
-quits_whole p h k stopped none (inr stops) = inr (stops_whole h k none stops)
+quits_whole : (p : SessionState) (h k : List TraceEvent) → is_stopped p.world ≡ true → (is_stopped (state_after p h).world ≡ true → k ≡ [])
+    → AllByRecursion IsLast k → QuitsPart p h → QuitsAt (k ++ h)
+quits_whole p h k stopped still kills (inl unbegun) = inl (none_both p h k stopped still unbegun)
+quits_whole p h k stopped still kills (inr stops) = inr (stops_killed h k kills stops)
 
 -- ---- the whole
 
 module _ (entries : Image → List (List ℕ) → Type 0) {D : Type 0} (may_leave : D → Image → Type 0) where
-  doubt_whole : (new : D) (p : SessionState) (h k : List TraceEvent) (status : Status) → (gives_up status ≡ true → k ≡ [])
+  doubt_whole : (new : D) (p : SessionState) (h k : List TraceEvent) (status : Status) → (gives_up status ≡ true → AllByRecursion IsLast k)
       → (state_after p (k ++ h)).device ≡ (state_after p h).device
       → StandsBehind entries may_leave new p h ⊎ ((gives_up status ≡ true) × StopsAt h) → StandsBehind entries may_leave new p (k ++ h) ⊎ StopsAt (k ++ h)
   doubt_whole new p h k status last device (inl behind) = inl (λ c may. subst (λ (d : Device). StandsFor entries c d) (sym device) (behind c may))
-  doubt_whole new p h k status last device (inr stops) = inr (stops_whole h k (last stops.0) stops.1)
+  doubt_whole new p h k status last device (inr stops) = inr (stops_killed h k (last stops.0) stops.1)
 
 module _ (entries : Image → List (List ℕ) → Type 0) (files : List ℕ → Type 0) {D : Type 0} {may_leave : D → Image → Type 0} {moment : D → ℕ} {left_since : D →
     ℕ → Image → Type 0} where
@@ -103,7 +91,7 @@ module _ (entries : Image → List (List ℕ) → Type 0) (files : List ℕ → 
       (told : Told) (living : List ℕ) (status : Status) → p.serves ≡ false → is_stopped p.world ≡ true → status ≡ status_of_ran r
       → (part : RunsPart entries files may_leave moment left_since old new a b u v p r world told living) → (k : List TraceEvent) ×
       ActTrace (state_after p part.history) k b c × IsEnd (state_after (state_after p part.history) k) status (is_failing part.ending)
-      × (is_stopped (state_after p part.history).world ≡ true → k ≡ []) × (IsOver r → k ≡ [])
+      × (is_stopped (state_after p part.history).world ≡ true → k ≡ []) × (IsOver r → k ≡ []) × (gives_up status ≡ true → AllByRecursion IsLast k)
       → (call : Call entries files may_leave moment left_since old new a c u v p status) × (call.ending ≡ part.ending)
       × (records_of call.history ≡ records_of part.history)
   whole old new a b c u v p r world told living status serves stopped is part stop =
@@ -111,10 +99,7 @@ module _ (entries : Image → List (List ℕ) → Type 0) (files : List ℕ → 
       let k = stop.0 in
       let acts = stop.1 in
       let records = records_opened h k acts.none in
-      let device = ap (λ (q : SessionState). q.device) (left-append p k h) ∙ acts.device in
-      let last : gives_up status ≡ true → k ≡ [] = λ gives.
-      quit_last p.generation r (is_failing part.ending) (state_after p h) world told living k part.left stop.4
-      (ap (λ (s : Status). gives_up s) (sym is) ∙ gives) in (
+      let device = ap (λ (q : SessionState). q.device) (left-append p k h) ∙ acts.device in (
         record {
           from = part.from;
           to = part.to;
@@ -130,9 +115,9 @@ module _ (entries : Image → List (List ℕ) → Type 0) (files : List ℕ → 
           ends = ends_whole p h k stopped stop.3 acts.none device part.ending part.ends;
           end = subst (λ (q : SessionState). IsEnd q status (is_failing part.ending)) (sym (left-append p k h)) stop.2;
           stands = λ i may. subst (λ (l : List Record). StandsForMost entries p.device l i) (sym records) (part.stands i may);
-          doubt = doubt_whole entries may_leave new p h k status last device (by_status (sym is) part.doubt);
+          doubt = doubt_whole entries may_leave new p h k status stop.5 device (by_status (sym is) part.doubt);
           once = subst (λ (l : List Record). TakesOnce p.taken l) (sym records) (part.once serves);
-          quits = λ gives. quits_whole p h k stopped (last gives) (part.quits (ap (λ (s : Status). gives_up s) (sym is) ∙ gives));
+          quits = λ gives. quits_whole p h k stopped stop.3 (stop.5 gives) (part.quits (ap (λ (s : Status). gives_up s) (sym is) ∙ gives));
         },
         refl,
         records,

@@ -27,7 +27,7 @@ use Rattle.session.specs.Endings.{Ending, ByDecline, ByDiskFault, Full, WantBefo
 -- ---- what taking it in answers
 
 -- The bytes are no document, or there is no memory to read them; or the document that they read as is taken in so.
-abbrev pub TakesRead : Device → Origin → Option Content → ℕ → ℕ → List ℕ → Result code.Plan Declined → Type 0
+abbrev pub TakesRead : Device → Origin → Content → ℕ → ℕ → List ℕ → Result code.Plan Declined → Type 0
 TakesRead d o content before after bytes taken =
     (taken ≡ Err (Refused refusal.NoMemory))
     ⊎ ((fault : DocFault) × IsFault bytes fault × (taken ≡ Err (Refused (document_refusal fault))))
@@ -40,9 +40,10 @@ TakesRead d o content before after bytes taken =
 abbrev pub FitsFrom : (ℕ → ℕ) → Plan → Type 0
 FitsFrom start plan = ¬ (IsTooFar (start (plan_bytes plan)) (plan_bytes plan))
 
--- it is not begun, for want of memory or of room
+-- it is not begun: for want of memory, since the disk failed where room was asked for it, or since the journal has no place
 abbrev pub IsPutOff : (ℕ → ℕ) → Plan → Ending → Type 0
 IsPutOff start plan WantBefore = ⊤
+IsPutOff start plan ByDiskFault = ⊤
 IsPutOff start plan (Full at) = (at ≡ start (plan_bytes plan)) × IsTooFar at (plan_bytes plan)
 IsPutOff start plan _ = ⊥
 

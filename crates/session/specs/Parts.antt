@@ -1,10 +1,11 @@
 -- One deployment in a call that goes on behind it or ends: what happens, what is printed, and what is left.
-use Rattle.std.specs.Prelude.{◌≡◌, ◌⊎◌, ℕ, Bool, true, false, List, [], Option, None, Result, is_some, if◌then◌else◌, ⊤}
+use Rattle.std.specs.Prelude.{◌≡◌, ◌≢◌, ◌⊎◌, ℕ, Bool, true, false, List, [], Option, None, Result, is_some, if◌then◌else◌, ⊤}
 use Rattle.std.specs.List.{AllByRecursion, list_any}
 use Rattle.disk_model.specs.Disk.{Image, HasLeft}
 use Rattle.nuc_base.specs.declared.kinds.Outcome.{Outcome}
 use Rattle.nuc_base.specs.declared.status.Status.{Status}
-use Rattle.records.specs.Stored.{Plan}
+use Rattle.nuc_base.specs.declared.status.Status.TheVariants as statuses
+use Rattle.records.specs.Stored.{Plan, Record}
 use Rattle.records.specs.declared.record.Plan as code
 use Rattle.device.specs.Devices.{Device}
 use Rattle.deploy_state.specs.States.{OwnsIdle, idle_device}
@@ -77,15 +78,23 @@ pub record IsShut (p : SessionState) : Type 0 where
 abbrev pub MayGiveUp : SessionState → Components → Told → List ℕ → Type 0
 MayGiveUp q world told living = IsGivenUp q world told living × (is_stopped q.world ≡ is_stopped world)
 
--- The call comes back, with a status by which it neither gives up nor asks for a restart; or it ends.
+-- It cannot go on with this status: a line could not be written, or the disk failed after a close.
+abbrev pub must_end : Status → Standing → Bool
+must_end statuses.Edge standing = true
+must_end statuses.Disk standings.AsBefore = false
+must_end statuses.Disk standing = true
+must_end status standing = false
+
+-- The call comes back, with a status by which it can go on and that asks for no restart; or it ends.
 abbrev pub RanLeft : {J : Type 0} → Generation → Ran J → Bool → SessionState → Components → Told → List ℕ → Type 0
 RanLeft before (ran.Back s status standing) rose q world told living =
-    IsReturned q (idle_device s) world told living × IsGeneration standing before q.generation × (gives_up status ≡ false) × (is_restart status ≡ false)
+    IsReturned q (idle_device s) world told living × IsGeneration standing before q.generation × (must_end status standing ≡ false)
+    × (is_restart status ≡ false)
 RanLeft before (ran.Over status) rose q world told living = IsEnd q status rose
 
--- it comes back where it does not give up
+-- it comes back where it can go on
 abbrev pub came_of : {J : Type 0} → IdleState J → Status → Standing → Ran J
-came_of idle status standing = if gives_up status then ran.Over status else ran.Back idle status standing
+came_of idle status standing = if must_end status standing then ran.Over status else ran.Back idle status standing
 
 abbrev pub status_of_ran : {J : Type 0} → Ran J → Status
 status_of_ran (ran.Back s status standing) = status
@@ -98,6 +107,23 @@ IsBack (ran.Over status) = ⊥
 abbrev pub IsOver : {J : Type 0} → Ran J → Type 0
 IsOver (ran.Back s status standing) = ⊥
 IsOver (ran.Over status) = ⊤
+
+-- Where the components that stood before stand nothing was recorded, and else the last record is that a deployment closed.
+abbrev pub CameBy : {J : Type 0} → Ran J → List Record → Type 0
+CameBy (ran.Back s status standings.AsBefore) records = records ≡ []
+CameBy (ran.Back s status standings.OfSet) records = (o : Outcome) × ClosesAs o records
+CameBy (ran.Back s status standings.Nobody) records = (o : Outcome) × ClosesAs o records
+CameBy (ran.Over status) records = ⊤
+
+-- after a deployment they are those of the set, or none stands
+abbrev pub IsAnew : {J : Type 0} → Ran J → Type 0
+IsAnew (ran.Back s status standing) = standing ≢ standings.AsBefore
+IsAnew (ran.Over status) = ⊤
+
+-- want of memory alone does not end the call
+abbrev pub NoMemoryGoesOn : {J : Type 0} → Ran J → Type 0
+NoMemoryGoesOn (ran.Back s status standing) = ⊤
+NoMemoryGoesOn (ran.Over status) = status ≢ statuses.Memory
 
 -- the call gives up by the status, or it ends for a restart or a reboot
 abbrev pub EndsCall : Status → Type 0
@@ -178,11 +204,13 @@ module _ (entries : Image → List (List ℕ) → Type 0) (files : List ℕ → 
     module _ {J : Type 0} (r : Ran J) (world : Components) (told : Told) (living : List ℕ) where
       -- the plan is driven, or put off
       abbrev pub RunsPlan : (ℕ → ℕ) → Plan → Type 0
-      RunsPlan start plan = (c : RunsPart r world told living) × PlanEnding start plan c.ending (records_of c.history)
+      RunsPlan start plan =
+          (c : RunsPart r world told living) × PlanEnding start plan c.ending (records_of c.history) × CameBy r (records_of c.history)
 
       -- so is a plan that was taken in, and a document that was not taken is declined
       abbrev pub RunsTaken : (ℕ → ℕ) → Result code.Plan Declined → Type 0
-      RunsTaken start taken = (c : RunsPart r world told living) × TakenEnding start taken c.ending (records_of c.history)
+      RunsTaken start taken =
+          (c : RunsPart r world told living) × TakenEnding start taken c.ending (records_of c.history) × CameBy r (records_of c.history)
 
       -- At each moment each image stands for what a prefix of the records makes of the device, with all of its artifacts.
       abbrev pub HasArtifacts : RunsPart r world told living → Type 0

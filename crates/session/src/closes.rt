@@ -10,7 +10,7 @@ ghost use Rattle.disk_model.specs.Spares.{IsSameBut};
 ghost use Rattle.deploy_state.specs.States.{OwnsIdle, idle_device};
 ghost use Rattle.admission.specs.Takes.{LieElsewhere};
 ghost use Rattle.session_rollout.specs.Driven.{generation_left};
-ghost use Rattle.session.specs.Parts.{EndsRan, IsOver, IsUnbegun, OwnsRan, RanLeft, standing_of, status_of_ran};
+ghost use Rattle.session.specs.Parts.{EndsRan, NoMemoryGoesOn, IsAnew, IsOver, IsUnbegun, OwnsRan, RanLeft, standing_of, status_of_ran};
 ghost use Rattle.histories.specs.Phases.{Generation};
 ghost use Rattle.histories.specs.TraceEvents.{TraceEvent};
 ghost use Rattle.histories.specs.States.{SessionState, state_after};
@@ -77,8 +77,8 @@ fn standing_of(presence: Presence) -> Standing
     }
 }
 
-/// Sweeps stray files, and comes back with how the deployment closed, the components as they are. Where the sweep fails all
-/// children are killed, where they are, and the call ends.
+/// Sweeps stray files, and comes back with how the deployment closed, the components as they are, or with 15 where there was no
+/// memory to sweep. Where the disk fails all children are killed, where they are, and the call ends.
 pub(crate) fn end_closed<D: Disk, J: Journal + Drop, K: Sink, R: Runner, S: Supervise>(
     alloc: Global,
     idle: Idle<J>,
@@ -99,6 +99,8 @@ pub(crate) fn end_closed<D: Disk, J: Journal + Drop, K: Sink, R: Runner, S: Supe
         ((rose : Bool) → AsTold R.Runner runner.new (RanLeft before result rose (state_after p k) (S.world supervisor.now))) }
     ensures none { IsOver result → R.living runner.new ≡ [] }
     ensures ends_call { EndsRan result }
+    ensures anew { IsAnew result }
+    ensures no_memory { NoMemoryGoesOn result }
     ensures held { OwnsOver D.Disk J.Journal OwnsRan result disk.new }
     ensures spared { ChangesArtifactsAlone D.may_leave D.moment D.left_since disk.old disk.new }
     // The device has its artifacts at each moment.

@@ -16,7 +16,7 @@ ghost use Rattle.session_boots.specs.Lines.{id_of};
 ghost use Rattle.session_boots.specs.Traces.{ActTrace};
 ghost use Rattle.session_rollout.specs.Driven.{DrivenLeft, OwnsDriven, driven_device};
 ghost use Rattle.admission.specs.Takes.{LieElsewhere};
-ghost use Rattle.session.specs.Parts.{EndsRan, IsOver, IsUnbegun, OwnsRan, RanLeft, status_of_ran};
+ghost use Rattle.session.specs.Parts.{EndsRan, NoMemoryGoesOn, IsAnew, IsOver, IsUnbegun, OwnsRan, RanLeft, status_of_ran};
 ghost use Rattle.session.specs.Calls.{DrivenStatus, DrivenEnding, IsOrEdge, SaysEnding, SaysLine, ChangesArtifactsAlone};
 ghost use Rattle.session.specs.Endings.{ByDiskFault};
 ghost use Rattle.refusal_lines.specs.Statuses.{status_of_outcome};
@@ -72,6 +72,9 @@ fn end_driven<D: Disk, J: Journal + Drop, K: Sink, R: Runner, S: Supervise>(
         ((rose : Bool) → AsTold R.Runner runner.new (RanLeft before result rose (state_after p k) (S.world supervisor.now))) }
     ensures none { IsOver result → R.living runner.new ≡ [] }
     ensures ends_call { EndsRan result }
+    ensures anew { IsAnew result }
+    // Want of memory alone does not end the call.
+    ensures no_memory { NoMemoryGoesOn result }
     ensures held { OwnsOver D.Disk J.Journal OwnsRan result disk.new }
     ensures spared { ChangesArtifactsAlone D.may_leave D.moment D.left_since disk.old disk.new }
     // The device has its artifacts at each moment.
@@ -129,6 +132,9 @@ pub(crate) fn end_call<D: Disk, J: Journal + Drop, K: Sink, R: Runner, S: Superv
     ensures still { OnErr driven (R.list runner.new ≡ R.list runner.old) }
     ensures none { IsOver result → R.living runner.new ≡ [] }
     ensures ends_call { EndsRan result }
+    ensures anew { IsAnew result }
+    // Want of memory alone does not end the call.
+    ensures no_memory { NoMemoryGoesOn result }
     ensures held { OwnsOver D.Disk J.Journal OwnsRan result disk.new }
     ensures spared { ChangesArtifactsAlone D.may_leave D.moment D.left_since disk.old disk.new }
     // The device has its artifacts at each moment.

@@ -9,7 +9,7 @@ ghost use Rattle.histories.specs.States.{SessionState, state_after};
 ghost use Rattle.session_boots.specs.Traces.{ActTrace};
 ghost use Rattle.session_boots.specs.Stages.{AsTold};
 ghost use Rattle.session_transitions.specs.Kills.{KeepsRest};
-ghost use Rattle.session.specs.Parts.{IsGeneration, IsOver, IsReturned, IsUnbegun, MayGiveUp, RanLeft, came_of};
+ghost use Rattle.session.specs.Parts.{IsGeneration, IsOver, IsReturned, IsUnbegun, MayGiveUp, RanLeft, came_of, must_end};
 
 use crate::ran::{Ran, Standing};
 use components::Supervise;
@@ -19,10 +19,40 @@ use nuc_base::Status;
 use session_transitions::kill_all;
 use step_runner::Runner;
 
-fn gives_up(status: Status) -> bool
+/// Whether a call that ends with the status gives up.
+pub(crate) fn gives_up(status: Status) -> bool
     ensures { result ≡ gives_up status }
 {
     matches!(status, Status::Disk | Status::Edge | Status::Memory)
+}
+
+/// Whether a call cannot go on with the status: a line could not be written, or the disk failed after a close.
+fn must_end(status: Status, standing: Standing) -> bool
+    ensures { result ≡ must_end status standing }
+{
+    match status {
+        Status::Edge => true,
+        Status::Disk => match standing {
+            Standing::AsBefore => false,
+            Standing::OfSet | Standing::Nobody => true,
+        },
+        _ => false,
+    }
+}
+
+/// Kills all children that live, where they are.
+pub(crate) fn kill_standing<R: Runner, S: Supervise>(runner: &mut R, supervisor: &S)
+    requires from_state { (p : SessionState) × AsTold R.Runner runner.old (MayGiveUp p (S.world supervisor.now)) }
+    // Where no component stands nothing is done.
+    ensures trace { (p : SessionState) → AsTold R.Runner runner.old (MayGiveUp p (S.world supervisor.now)) →
+        (k : List TraceEvent) × ActTrace p k (R.list runner.old) (R.list runner.new) × IsUnbegun p k × KeepsRest p (state_after p k) ×
+        IsBare (state_after p k) }
+    ensures none { R.living runner.new ≡ [] }
+{
+    if supervisor.stopped() {
+        return;
+    }
+    kill_all(runner, supervisor);
 }
 
 /// Ends the call with a status by which it gives up: all children that live are killed, where they are.
@@ -39,15 +69,12 @@ pub(crate) fn give_up<J: Journal + Drop, R: Runner, S: Supervise>(
     ensures none { R.living runner.new ≡ [] }
     ensures over { result ≡ Ran.Over status }
 {
-    if supervisor.stopped() {
-        return Ran::Over(status);
-    }
-    kill_all(runner, supervisor);
+    kill_standing(runner, supervisor);
     Ran::Over(status)
 }
 
-/// Comes back with the status, the device in hand, and the components as they are. Where the call gives up by the status, it
-/// ends, and all children that live are killed, where they are.
+/// Comes back with the status, the device in hand, and the components as they are. Where the call cannot go on with the status,
+/// it ends, and all children that live are killed, where they are.
 pub(crate) fn back_or_over<J: Journal + Drop, R: Runner, S: Supervise>(
     idle: Idle<J>,
     status: Status,
@@ -64,7 +91,7 @@ pub(crate) fn back_or_over<J: Journal + Drop, R: Runner, S: Supervise>(
     ensures none { IsOver result → R.living runner.new ≡ [] }
     ensures exact { result ≡ came_of idle status standing }
 {
-    if gives_up(status) {
+    if must_end(status, standing) {
         drop(idle);
         return give_up(status, runner, supervisor);
     }

@@ -19,6 +19,9 @@ pub enum Standing {
 #[derive(Drop)]
 pub enum Ran<J: Journal + Drop> {
     /// The call may go on, with the device in hand: it answered so, and the components are these.
+    ///
+    /// With 5 or 15 and the components that stood before, a document met a fault before its record, and nothing of it was
+    /// deployed. With 15 and other components, a deployment closed, and there was no memory to sweep stray files after that.
     Back(Idle<J>, Status, Standing),
     /// The call ends with this status, and no child lives.
     Over(Status),

@@ -4,6 +4,7 @@ ghost use Rattle.artifact_store.specs.Holding.{AllHoldDevice};
 ghost use Rattle.artifact_store.specs.Swept.{IsSwept, items_of};
 ghost use Rattle.nuc_base.specs.Faults.{Rose};
 ghost use Rattle.nuc_base.specs.declared.status.Status.TheVariants as statuses;
+ghost use Rattle.library_core.specs.Library.{StaysTold};
 ghost use Rattle.records.specs.declared.record.Plan as code;
 ghost use Rattle.records.specs.declared.record.Origin.{Origin};
 ghost use Rattle.deploy_state.specs.States.{OwnsIdle, idle_device};
@@ -71,7 +72,7 @@ where
     // count of that rose.
     ensures call { (p : SessionState) → AsTold R.Runner runner.old (IsOpen p (idle_device idle) (S.world supervisor.old)) → TakesLast p →
         (taken : Result code.Plan Declined)
-        × ((o : Origin) → (idle_device idle).origin ≡ Some o → TakesMade (idle_device idle) o (L.content library.old) (L.faults library.old)
+        × ((o : Origin) → (idle_device idle).origin ≡ Some o → TakesMade (idle_device idle) o (L.content library.new) (L.faults library.old)
         (L.faults library.new) made taken)
         × (t : RunsTakenOn D.Disk J.Journal K.Sink R.Runner disk.old disk.new sink.old sink.new runner.old runner.new p result (S.world supervisor.new)
         (entry_start J.Journal idle) taken)
@@ -96,7 +97,7 @@ where
         (status_of_ran result)
         (D.seen disk.new) }
     ensures library { status_of_ran result ≡ statuses.Library → Rose (L.faults library.old) (L.faults library.new) }
-    ensures kept { L.content library.new ≡ L.content library.old }
+    ensures kept { StaysTold L.content L.coming library.old library.new }
     ensures library_quiet { status_of_ran result ≢ statuses.Library → status_of_ran result ≢ statuses.Edge → L.faults library.new ≡ L.faults library.old }
     ensures library_later { L.faults library.old ≤ L.faults library.new }
 {

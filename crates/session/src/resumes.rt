@@ -14,7 +14,7 @@ ghost use Rattle.session_admission.specs.Readied.{AreReadiedFor};
 ghost use Rattle.admission.specs.Takes.{LieElsewhere};
 ghost use Rattle.session.specs.Objects.{HasArtifactsOn, RunsPartOn};
 ghost use Rattle.session.specs.Calls.{AreOthersSame, IsOrEdge, SaysLine, HasNotFallen, resumed_line};
-ghost use Rattle.session.specs.Parts.{EndsRan, IsBack, IsOver, OwnsRan, TakesNone, status_of_ran};
+ghost use Rattle.session.specs.Parts.{EndsRan, IsAnew, IsBack, IsOver, OwnsRan, TakesNone, status_of_ran};
 ghost use Rattle.law_supervisor.specs.Sound.{IsOrderly};
 ghost use Rattle.law_termination.specs.Drives.{AreDriven};
 ghost use Rattle.session.specs.Endings.{ByDiskFault, ResumeEnding};
@@ -100,6 +100,7 @@ where
     // Where it comes back the components are as the deployment left them, and else no child lives.
     ensures none { IsOver result → R.living runner.new ≡ [] }
     ensures ends_call { EndsRan result }
+    ensures anew { IsAnew result }
     ensures drives { IsBack result → AreDriven (S.world supervisor.new) }
     ensures held { OwnsOver D.Disk J.Journal OwnsRan result disk.new }
     ensures others { IsTrue D.is_modelled → AreOthersSame J.files (D.seen disk.old) (D.seen disk.new) }
@@ -156,6 +157,7 @@ where
     // Where it comes back the components are as the deployment left them, and else no child lives.
     ensures none { IsOver result → R.living runner.new ≡ [] }
     ensures ends_call { EndsRan result }
+    ensures anew { IsAnew result }
     ensures drives { IsBack result → AreDriven (S.world supervisor.new) }
     ensures held { OwnsOver D.Disk J.Journal OwnsRan result disk.new }
     ensures others { IsTrue D.is_modelled → AreOthersSame J.files (D.seen disk.old) (D.seen disk.new) }
@@ -181,7 +183,7 @@ where
 /// Drives the pending deployment on, from its recorded stage to its close. Where none is pending that is said, and nothing is
 /// done. No component stands before.
 ///
-/// Comes back with 0, 10, 11 and 12, and else ends the call.
+/// Comes back with 0, 10, 11 and 12, and with 15 where there was no memory to sweep stray files after the close; and else ends the call.
 pub fn resume<D: Disk, J: Journal + Drop, K: Sink, R: Runner, S: Supervise>(
     alloc: Global,
     state: Loaded<J>,
@@ -210,6 +212,8 @@ where
     // Where it comes back the components are as the deployment left them, and else no child lives.
     ensures none { IsOver result → R.living runner.new ≡ [] }
     ensures ends_call { EndsRan result }
+    // Where one is pending the components are those of the set behind it, or none stands.
+    ensures anew { IsSome (loaded_device state).pending → IsAnew result }
     ensures drives { IsBack result → AreDriven (S.world supervisor.new) }
     ensures held { OwnsOver D.Disk J.Journal OwnsRan result disk.new }
     ensures others { IsTrue D.is_modelled → AreOthersSame J.files (D.seen disk.old) (D.seen disk.new) }

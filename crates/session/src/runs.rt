@@ -4,6 +4,7 @@ ghost use Rattle.artifact_store.specs.Holding.{AllHoldDevice};
 ghost use Rattle.artifact_store.specs.Swept.{IsSwept, items_of};
 ghost use Rattle.nuc_base.specs.Faults.{Rose};
 ghost use Rattle.nuc_base.specs.declared.status.Status.TheVariants as statuses;
+ghost use Rattle.library_core.specs.Library.{StaysTold};
 ghost use Rattle.records.specs.Stored as stored;
 ghost use Rattle.records.specs.Stored.{plan_view};
 ghost use Rattle.records.specs.declared.record.Plan as code;
@@ -23,7 +24,7 @@ ghost use Rattle.deploy_state.specs.Objects.{entry_start};
 ghost use Rattle.session.specs.Objects.{AcceptsFromOn, AcceptsTakenOn, HasArtifactsOn, RunsPlanOn, RunsTakenOn};
 ghost use Rattle.session.specs.Calls.{AllHoldBoth, AreOthersSame, IsReadiedOn, HasNotFallen};
 ghost use Rattle.session.specs.Documents.{TakesRead};
-ghost use Rattle.session.specs.Parts.{EndsRan, IsBack, IsOver, OwnsRan, TakesLast, status_of_ran};
+ghost use Rattle.session.specs.Parts.{EndsRan, NoMemoryGoesOn, IsBack, IsOver, OwnsRan, TakesLast, status_of_ran};
 ghost use Rattle.session_transitions.specs.Enters.{RunOn};
 ghost use Rattle.law_supervisor.specs.Sound.{IsOrderly};
 ghost use Rattle.law_termination.specs.Drives.{AreDriven};
@@ -79,8 +80,8 @@ where
     prepare(alloc, supervisor, origin, &device.set, plan)
 }
 
-/// Accepts the plan, and drives its deployment to its close, whether or not components stand. For want of memory the plan may be
-/// given back.
+/// Accepts the plan, and drives its deployment to its close, whether or not components stand. For want of memory, and where the
+/// disk makes no room for it, the plan is given back.
 fn run_plan<D: Disk, J: Journal + Drop, K: Sink, R: Runner, S: Supervise>(
     alloc: Global,
     idle: Idle<J>,
@@ -116,6 +117,8 @@ where
     // Where it comes back the components are as the deployment left them, and else no child lives.
     ensures none { IsOver result → R.living runner.new ≡ [] }
     ensures ends_call { EndsRan result }
+    // Want of memory alone does not end the call.
+    ensures no_memory { NoMemoryGoesOn result }
     ensures drives { IsBack result → AreDriven (S.world supervisor.new) }
     ensures held { OwnsOver D.Disk J.Journal OwnsRan result disk.new }
     ensures others { IsTrue D.is_modelled → AreOthersSame J.files (D.seen disk.old) (D.seen disk.new) }
@@ -137,9 +140,13 @@ where
             back_or_over(idle, status, Standing::AsBefore, runner, supervisor)
         }
         Ok(Taken::NoMemory(idle)) => {
-            drop(idle);
             drop(ready);
-            give_up(Status::Memory, runner, supervisor)
+            back_or_over(idle, Status::Memory, Standing::AsBefore, runner, supervisor)
+        }
+        Ok(Taken::NoRoom(idle)) => {
+            drop(ready);
+            let status = say_disk(sink);
+            back_or_over(idle, status, Standing::AsBefore, runner, supervisor)
         }
         Err(SessionFault::Disk) => {
             drop(ready);
@@ -154,9 +161,11 @@ where
 }
 
 /// Takes a document in, and deploys it, whether or not components stand. It is refused by name where a check fails, and then the
-/// device is as before, and so are the components, unless the status is one by which the call gives up: 5, 6 or 15.
+/// device is as before, and so are the components. So they are after a fault that it meets before its record: the disk's, while
+/// its files are taken in, with the line `fault 5 disk`, and want of memory, which is not said.
 ///
-/// Comes back with 0, 2, 3, 7, 10, 11, 12, 13, 14 and 18, and else ends the call.
+/// Comes back with 0, 2, 3, 7, 10, 11, 12, 13, 14 and 18, with 5 where nothing was recorded, and with 15; and else ends the call.
+/// With 15 after a close there was no memory to sweep stray files.
 pub fn run_deployment<D: Disk, J: Journal + Drop, L: Library, K: Sink, R: Runner, S: Supervise>(
     alloc: Global,
     idle: Idle<J>,
@@ -182,7 +191,7 @@ where
     // count of that rose.
     ensures call { (p : SessionState) → AsTold R.Runner runner.old (IsOpen p (idle_device idle) (S.world supervisor.old)) → TakesLast p →
         (taken : Result code.Plan Declined)
-        × ((o : Origin) → (idle_device idle).origin ≡ Some o → TakesIn (idle_device idle) o (L.content library.old) (L.faults library.old)
+        × ((o : Origin) → (idle_device idle).origin ≡ Some o → TakesIn (idle_device idle) o (L.content library.new) (L.faults library.old)
         (L.faults library.new) document.now taken)
         × (t : RunsTakenOn D.Disk J.Journal K.Sink R.Runner disk.old disk.new sink.old sink.new runner.old runner.new p result (S.world supervisor.new)
         (entry_start J.Journal idle) taken)
@@ -195,6 +204,8 @@ where
     // Where it comes back the components are as the deployment left them, and else no child lives.
     ensures none { IsOver result → R.living runner.new ≡ [] }
     ensures ends_call { EndsRan result }
+    // Want of memory alone does not end the call.
+    ensures no_memory { NoMemoryGoesOn result }
     ensures drives { IsBack result → AreDriven (S.world supervisor.new) }
     ensures held { OwnsOver D.Disk J.Journal OwnsRan result disk.new }
     ensures others { IsTrue D.is_modelled → AreOthersSame J.files (D.seen disk.old) (D.seen disk.new) }
@@ -208,7 +219,7 @@ where
         LeavesNoStray D.is_modelled J.entries (status_of_ran result)
         (D.seen disk.new) }
     ensures library { status_of_ran result ≡ statuses.Library → Rose (L.faults library.old) (L.faults library.new) }
-    ensures kept { L.content library.new ≡ L.content library.old }
+    ensures kept { StaysTold L.content L.coming library.old library.new }
     ensures library_quiet { status_of_ran result ≢ statuses.Library → status_of_ran result ≢ statuses.Edge → L.faults library.new ≡ L.faults library.old }
     ensures library_later { L.faults library.old ≤ L.faults library.new }
 {
@@ -224,8 +235,7 @@ where
         Ok(ready) => run_plan(alloc, idle, plan, ready, disk, sink, runner, supervisor),
         Err(_) => {
             drop(plan);
-            drop(idle);
-            give_up(Status::Memory, runner, supervisor)
+            back_or_over(idle, Status::Memory, Standing::AsBefore, runner, supervisor)
         }
     }
 }
@@ -255,7 +265,7 @@ where
     // count of that rose.
     ensures call { (p : SessionState) → AsTold R.Runner runner.old (IsOpen p (idle_device idle) (S.world supervisor.old)) → TakesLast p →
         (taken : Result code.Plan Declined)
-        × ((o : Origin) → (idle_device idle).origin ≡ Some o → TakesRead (idle_device idle) o (L.content library.old) (L.faults library.old)
+        × ((o : Origin) → (idle_device idle).origin ≡ Some o → TakesRead (idle_device idle) o (L.content library.new) (L.faults library.old)
         (L.faults library.new) document.now taken)
         × (t : RunsTakenOn D.Disk J.Journal K.Sink R.Runner disk.old disk.new sink.old sink.new runner.old runner.new p result (S.world supervisor.new)
         (entry_start J.Journal idle) taken)
@@ -268,6 +278,8 @@ where
     // Where it comes back the components are as the deployment left them, and else no child lives.
     ensures none { IsOver result → R.living runner.new ≡ [] }
     ensures ends_call { EndsRan result }
+    // Want of memory alone does not end the call.
+    ensures no_memory { NoMemoryGoesOn result }
     ensures drives { IsBack result → AreDriven (S.world supervisor.new) }
     ensures held { OwnsOver D.Disk J.Journal OwnsRan result disk.new }
     ensures others { IsTrue D.is_modelled → AreOthersSame J.files (D.seen disk.old) (D.seen disk.new) }
@@ -281,7 +293,7 @@ where
         LeavesNoStray D.is_modelled J.entries (status_of_ran result)
         (D.seen disk.new) }
     ensures library { status_of_ran result ≡ statuses.Library → Rose (L.faults library.old) (L.faults library.new) }
-    ensures kept { L.content library.new ≡ L.content library.old }
+    ensures kept { StaysTold L.content L.coming library.old library.new }
     ensures library_quiet { status_of_ran result ≢ statuses.Library → status_of_ran result ≢ statuses.Edge → L.faults library.new ≡ L.faults library.old }
     ensures library_later { L.faults library.old ≤ L.faults library.new }
 {

@@ -3,6 +3,7 @@ ghost use Rattle.std.specs.Prelude.{◌≡◌, ◌≢◌, [], false, IsTrue, is_
 ghost use Rattle.artifact_store.specs.Holding.{AllHoldDevice};
 ghost use Rattle.artifact_store.specs.Swept.{IsSwept, items_of};
 ghost use Rattle.nuc_base.specs.Faults.{Rose};
+ghost use Rattle.library_core.specs.Library.{StaysTold};
 ghost use Rattle.device.specs.Devices.{Device};
 ghost use Rattle.deploy_state.specs.States.{OwnsLoaded, loaded_device, OwnsIdle, idle_device};
 ghost use Rattle.histories.specs.States.{SessionState, state_after};
@@ -17,7 +18,9 @@ ghost use Rattle.session_boots.specs.Stages.{AsTold};
 ghost use Rattle.session_boots.specs.Stands.{IsAtBootStage};
 ghost use Rattle.law_termination.specs.Drives.{AreDriven};
 ghost use Rattle.components.specs.Components.{is_stopped};
-ghost use Rattle.histories.specs.Courses.{IsEnd};
+ghost use Rattle.histories.specs.Courses.{IsEnd, gives_up, is_restart};
+ghost use Rattle.histories.specs.Follows.{IsLast};
+ghost use Rattle.std.specs.List.{AllByRecursion};
 ghost use Rattle.histories.specs.Phases.{Generation};
 ghost use Rattle.histories.specs.TraceEvents.{TraceEvent, records_of};
 ghost use Rattle.session_boots.specs.Traces.{ActTrace};
@@ -30,6 +33,7 @@ ghost use Rattle.admission.specs.Requests.{IsInside, TakesMade};
 ghost use Rattle.admission.specs.declared.fault.Declined.{Declined};
 ghost use Rattle.records.specs.declared.record.Plan as code;
 
+use crate::giving::{gives_up, kill_standing};
 use crate::ran::Ran;
 use crate::requests::run_made;
 use crate::resumes::resume;
@@ -61,7 +65,26 @@ fn stop_standing<R: Runner, S: Supervise>(runner: &mut R, supervisor: &mut S)
     stop_components(runner, supervisor);
 }
 
-/// Ends a call that does nothing more: where a deployment came back all components that stand are stopped. Answers its status.
+/// Stops all components that stand. Where the call gives up by the status all children are killed, where they are, in the place of that.
+fn end_standing<R: Runner, S: Supervise>(status: Status, runner: &mut R, supervisor: &mut S)
+    requires drives { AreDriven (S.world supervisor.old) }
+    requires other { is_restart status ≡ false }
+    requires from_state { (p : SessionState) × (d : Device) × AsTold R.Runner runner.old (IsReturned p d (S.world supervisor.old)) × (p.serves ≡ false) }
+    // Where none stands nothing is done.
+    ensures trace { (p : SessionState) → (d : Device) → AsTold R.Runner runner.old (IsReturned p d (S.world supervisor.old)) → (p.serves ≡ false) →
+        (k : List TraceEvent) × ActTrace p k (R.list runner.old) (R.list runner.new) × ((rose : Bool) → IsEnd (state_after p k) status rose) ×
+        (is_stopped p.world ≡ true → k ≡ []) × (gives_up status ≡ true → AllByRecursion IsLast k) }
+    ensures none { R.living runner.new ≡ [] }
+{
+    if gives_up(status) {
+        kill_standing(runner, supervisor);
+        return;
+    }
+    stop_standing(runner, supervisor);
+}
+
+/// Ends a call that does nothing more: where a deployment came back all components that stand are stopped, or, with a status by which
+/// the call gives up, all children are killed. Answers its status.
 pub fn finish<J: Journal + Drop, R: Runner, S: Supervise>(
     ran: Ran<J>,
     runner: &mut R,
@@ -72,18 +95,18 @@ pub fn finish<J: Journal + Drop, R: Runner, S: Supervise>(
         AsTold R.Runner runner.old (RanLeft before ran rose p (S.world supervisor.old)) ×
         (p.serves ≡ false) }
     requires none { IsOver ran → R.living runner.old ≡ [] }
-    // Where none stands, or the call ended already, nothing is done.
+    // Where none stands, or the call ended already, nothing is done. Where it gives up at most children are killed.
     ensures trace { (p : SessionState) → (before : Generation) → (rose : Bool) →
         AsTold R.Runner runner.old (RanLeft before ran rose p (S.world supervisor.old)) → (p.serves ≡ false) →
         (k : List TraceEvent) × ActTrace p k (R.list runner.old) (R.list runner.new) × IsEnd (state_after p k) result rose ×
-        (is_stopped p.world ≡ true → k ≡ []) × (IsOver ran → k ≡ []) }
+        (is_stopped p.world ≡ true → k ≡ []) × (IsOver ran → k ≡ []) × (gives_up result ≡ true → AllByRecursion IsLast k) }
     ensures none { R.living runner.new ≡ [] }
     ensures status { result ≡ status_of_ran ran }
 {
     match ran {
         Ran::Back(idle, status, _) => {
             drop(idle);
-            stop_standing(runner, supervisor);
+            end_standing(status, runner, supervisor);
             status
         }
         Ran::Over(status) => status,
@@ -159,7 +182,7 @@ where
     // count of that rose.
     ensures call { (p : SessionState) → AsTold R.Runner runner.old (IsOpen p (idle_device idle) (S.world supervisor.old)) → (p.serves ≡ false) →
         (taken : Result code.Plan Declined)
-        × ((o : Origin) → (idle_device idle).origin ≡ Some o → TakesMade (idle_device idle) o (L.content library.old) (L.faults library.old)
+        × ((o : Origin) → (idle_device idle).origin ≡ Some o → TakesMade (idle_device idle) o (L.content library.new) (L.faults library.old)
         (L.faults library.new) made taken)
         × (t : DrivesTakenOn D.Disk J.Journal K.Sink R.Runner disk.old disk.new sink.old sink.new runner.old runner.new p result (entry_start J.Journal idle)
         taken)
@@ -180,7 +203,7 @@ where
     ensures swept { (IsTrue D.is_modelled → IsSwept (items_of (idle_device idle)) (D.seen disk.old)) → LeavesNoStray D.is_modelled J.entries result
         (D.seen disk.new) }
     ensures library { result ≡ statuses.Library → Rose (L.faults library.old) (L.faults library.new) }
-    ensures kept { L.content library.new ≡ L.content library.old }
+    ensures kept { StaysTold L.content L.coming library.old library.new }
     ensures library_quiet { result ≢ statuses.Library → result ≢ statuses.Edge → L.faults library.new ≡ L.faults library.old }
     ensures library_later { L.faults library.old ≤ L.faults library.new }
 {

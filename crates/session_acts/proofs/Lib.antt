@@ -6,3 +6,4 @@ pub mod Handing
 pub mod Taken
 pub mod Keeping
 pub mod Waiting
+pub mod Shows

@@ -1,10 +1,12 @@
 -- One wait, and what it leaves.
-use Rattle.std.specs.Prelude.{◌≡◌, ◌≤◌, ◌⊎◌, ◌+◌, ◌-◌, ◌^◌, ℕ, true, List, [], ◌∷◌, Option, IsSome}
+use Rattle.std.specs.Prelude.{◌≡◌, ◌≤◌, ◌⊎◌, ◌+◌, ◌-◌, ◌^◌, ℕ, true, List, [], ◌∷◌, Option, IfSome, IsSome}
 use Rattle.nuc_base.specs.declared.kinds.Exit.{Exit}
 use Rattle.step_runner.specs.Entries.{Told}
 use Rattle.step_runner.specs.declared.entries.RunnerEntry.{RunnerEntry}
+use Rattle.step_runner.specs.declared.runner.Runner as a_runner
 use Rattle.components.specs.Components.{Components, owner}
 use Rattle.components.specs.Events.{ended, later}
+use Rattle.components.specs.Views.{view_of}
 use Rattle.histories.specs.Phases.{duty_of}
 use Rattle.histories.specs.TraceEvents.{TraceEvent, Ran, WaitElapsed}
 use Rattle.histories.specs.States.{SessionState, is_wait}
@@ -32,3 +34,7 @@ pub record WaitsOnce (p : SessionState) (e : TraceEvent) (old new : Option (List
 abbrev pub IsWaited : ℕ → ℕ → ℕ → ℕ → Components → Components → Type 0
 IsWaited now limit before after w v = ((n : ℕ) × (x : Exit) × IsSome (owner n w.parts) × (v ≡ ended n x (later now w)))
     ⊎ ((v ≡ w) × ((before + limit ≤ after) ⊎ (after ≡ 2 ^ 62 - 1)))
+
+-- what the runner was shown last, where it tells that, are these components
+abbrev pub WasShownBy : {R : Type 0} → a_runner.Ghosts R → R → Components → Type 0
+WasShownBy runner r world = IfSome (runner.shown r) (λ view. view ≡ view_of world)

@@ -9,7 +9,7 @@ use Rattle.records.specs.Stored.{Plan, Accepted}
 use Rattle.device.specs.Devices.{Device}
 use Rattle.device.specs.Lawful.{Allowed, applied}
 use Rattle.device.specs.Standing.{IsMeant, HasSpace}
-use Rattle.deploy_state.specs.Accepting.{AcceptResult, HandsBack, HasStopped, IsHandedBack, booting_log}
+use Rattle.deploy_state.specs.Accepting.{AcceptResult, HandsBack, IsHandedBack, booting_log}
 use Rattle.deploy_state.specs.Owned.{LeavesEither}
 use Rattle.deploy_state.specs.States.{OwnsBooting, OwnsIdle, booting_device, idle_device}
 use Rattle.deploy_state.specs.declared.fault.AcceptRefusal.{AcceptRefusal}
@@ -32,7 +32,7 @@ use Rattle.session_boots.proofs.Entries.{never}
 use Rattle.session_boots.proofs.Joins.{kept_one}
 use Rattle.session_boots.proofs.Records.{doubt_at}
 use Rattle.session_boots.proofs.Told.{last_unprinted}
-use Rattle.session_admission.specs.Accepts.{AcceptAnswer, HasTaken, OwnsTaken, IsAcceptedAt, IsFullAt, IsFullOrShort, IsOpen, IsTakenOf, TakenLeft, answer_of}
+use Rattle.session_admission.specs.Accepts.{AcceptAnswer, HasDiskFailed, HasTaken, OwnsTaken, IsAcceptedAt, IsFullAt, IsFullOrShort, IsOpen, IsTakenOf, TakenLeft, answer_of}
 
 -- ---- it may come there, and what it leaves
 
@@ -97,6 +97,7 @@ module _ (entries : Image → List (List ℕ) → Type 0) (files : List ℕ → 
       × (records_of h ≡ Accepted plan ∷ [])
   stopped_went (refused.Full s at) old new held p d world told living plan taken o allowed notes = absurd taken
   stopped_went (refused.NoMemory s) old new held p d world told living plan taken o allowed notes = absurd taken
+  stopped_went (refused.NoRoom s) old new held p d world told living plan taken o allowed notes = absurd taken
   stopped_went (refused.Stopped s) old new held p d world told living plan taken o allowed notes = (
     Recorded (Accepted plan) ∷ [],
     accept_went old new told.list p d world told living plan o allowed notes,
@@ -151,42 +152,50 @@ module _ {J : Type 0} where
   pub refusal_full : (refusal : AcceptRefusal J) (at : ℕ) → IsFullAt (answer_of refusal) at → accepting.IsFullAt (Refused refusal) at
   refusal_full (refused.Full s place) at is = is
   refusal_full (refused.NoMemory s) at is = is
+  refusal_full (refused.NoRoom s) at is = is
   refusal_full (refused.Stopped s) at is = is
 
   pub refusal_fills : (refusal : AcceptRefusal J) (at : ℕ) → accepting.IsFullOrShort (Refused refusal) at → IsFullOrShort (answer_of refusal) at
   refusal_fills (refused.Full s place) at is = is
   refusal_fills (refused.NoMemory s) at is = is
+  refusal_fills (refused.NoRoom s) at is = is
   refusal_fills (refused.Stopped s) at is = is
 
-  pub refusal_stops : (refusal : AcceptRefusal J) → answer_of refusal ≡ Err over.Disk → HasStopped (Refused refusal)
-  refusal_stops (refused.Full s at) is = absurd (cc)
-  refusal_stops (refused.NoMemory s) is = absurd (cc)
-  refusal_stops (refused.Stopped s) is = tt
+  pub refusal_disk : (refusal : AcceptRefusal J) → HasDiskFailed (answer_of refusal) → accepting.HasDiskFailed (Refused refusal)
+  refusal_disk (refused.Full s at) failed = failed
+  refusal_disk (refused.NoMemory s) failed = failed
+  refusal_disk (refused.NoRoom s) failed = failed
+  refusal_disk (refused.Stopped s) failed = failed
 
   pub refusal_back : (refusal : AcceptRefusal J) → ¬ (HasTaken (answer_of refusal)) → IsHandedBack (Refused refusal)
   refusal_back (refused.Full s at) given = tt
   refusal_back (refused.NoMemory s) given = tt
+  refusal_back (refused.NoRoom s) given = tt
   refusal_back (refused.Stopped s) given = absurd (given tt)
 
-  pub stops_refusal : (refusal : AcceptRefusal J) → HasStopped (Refused refusal) → answer_of refusal ≡ Err over.Disk
-  stops_refusal (refused.Full s at) stopped = absurd stopped
-  stops_refusal (refused.NoMemory s) stopped = absurd stopped
-  stops_refusal (refused.Stopped s) stopped = refl
+  pub disk_refusal : (refusal : AcceptRefusal J) → accepting.HasDiskFailed (Refused refusal) → HasDiskFailed (answer_of refusal)
+  disk_refusal (refused.Full s at) failed = failed
+  disk_refusal (refused.NoMemory s) failed = failed
+  disk_refusal (refused.NoRoom s) failed = failed
+  disk_refusal (refused.Stopped s) failed = failed
 
   pub refusal_fails : (refusal : AcceptRefusal J) → HasTaken (answer_of refusal) → answer_of refusal ≡ Err over.Disk
   refusal_fails (refused.Full s at) taken = absurd taken
   refusal_fails (refused.NoMemory s) taken = absurd taken
+  refusal_fails (refused.NoRoom s) taken = absurd taken
   refusal_fails (refused.Stopped s) taken = refl
 
   pub refusal_edge : (refusal : AcceptRefusal J) → answer_of refusal ≡ Err over.Output → ⊥
   refusal_edge (refused.Full s at) is = cc
   refusal_edge (refused.NoMemory s) is = cc
+  refusal_edge (refused.NoRoom s) is = cc
   refusal_edge (refused.Stopped s) is = cc
 
   pub refusal_taken : (refusal : AcceptRefusal J) (Is : Idle J → Type 0) (d : Device) (plan : Plan) → HandsBack (λ s. Is s × (idle_device s ≡ d))
       (Refused refusal) → IfOk (answer_of refusal) (IsTakenOf d plan)
   refusal_taken (refused.Full s at) Is d plan back = back.1
   refusal_taken (refused.NoMemory s) Is d plan back = back.1
+  refusal_taken (refused.NoRoom s) Is d plan back = back.1
   refusal_taken (refused.Stopped s) Is d plan back = tt
 
   module _ {D : Type 0} (is_modelled : Bool) (may_leave : D → Image → Type 0) (stands : J → Image → List (List ℕ) → Type 0) (end : J → ℕ) where
@@ -195,4 +204,5 @@ module _ {J : Type 0} where
         → IfOk (answer_of refusal) (λ x. OwnsTaken is_modelled may_leave stands end x disk)
     refusal_held (refused.Full s at) disk d back = back.0
     refusal_held (refused.NoMemory s) disk d back = back.0
+    refusal_held (refused.NoRoom s) disk d back = back.0
     refusal_held (refused.Stopped s) disk d back = tt

@@ -14,7 +14,7 @@ ghost use Rattle.components.specs.Components.{Components};
 ghost use Rattle.histories.specs.TraceEvents.{TraceEvent, records_of};
 ghost use Rattle.histories.specs.States.{SessionState};
 ghost use Rattle.session_boots.specs.Ends.{HasLines};
-ghost use Rattle.session_admission.specs.Accepts.{HasTaken, OwnsTaken, IsAcceptedAt, IsFullAt, IsFullOrShort, IsOpen, IsTakenOf, TakenLeft, answer_of};
+ghost use Rattle.session_admission.specs.Accepts.{HasDiskFailed, HasTaken, OwnsTaken, IsAcceptedAt, IsFullAt, IsFullOrShort, IsOpen, IsTakenOf, TakenLeft, answer_of};
 ghost use Rattle.deploy_state.specs.Objects.{KeepsOthers, LeavesDevice, LeavesOneOf, OwnsOver};
 ghost use Rattle.session_boots.specs.Stages.{IsTraceOver, LeftOver};
 
@@ -35,6 +35,8 @@ pub enum Taken<J: Journal + Drop> {
     Full(Idle<J>, u64),
     /// There is no memory for it. The device is as before; the journal may have been begun anew.
     NoMemory(Idle<J>),
+    /// The disk failed where it was asked for room for it and what may follow it. The device and its entries are as before.
+    NoRoom(Idle<J>),
 }
 
 fn answer_to<J: Journal + Drop>(refusal: AcceptRefusal<J>) -> Result<Taken<J>, SessionFault>
@@ -43,6 +45,7 @@ fn answer_to<J: Journal + Drop>(refusal: AcceptRefusal<J>) -> Result<Taken<J>, S
     match refusal {
         AcceptRefusal::Full(idle, at) => Ok(Taken::Full(idle, at)),
         AcceptRefusal::NoMemory(idle) => Ok(Taken::NoMemory(idle)),
+        AcceptRefusal::NoRoom(idle) => Ok(Taken::NoRoom(idle)),
         AcceptRefusal::Stopped(_) => Err(SessionFault::Disk),
     }
 }
@@ -50,7 +53,7 @@ fn answer_to<J: Journal + Drop>(refusal: AcceptRefusal<J>) -> Result<Taken<J>, S
 /// Accepts a plan, and prints `accepted ID` once its entry is stable.
 ///
 /// All memory for the records up to the close is taken before that entry is written. A plan that does not fit the journal,
-/// or for which there is no memory, is given back with the state, and then nothing is printed.
+/// or for which there is no memory or the disk makes no room, is given back with the state, and then nothing is printed.
 pub fn accept_plan<D: Disk, J: Journal + Drop, K: Sink>(
     alloc: Global,
     idle: Idle<J>,
@@ -85,9 +88,9 @@ pub fn accept_plan<D: Disk, J: Journal + Drop, K: Sink>(
         (idle_device idle) (plan_view plan)
         (start_of J.end J.number J.turns (idle_log idle) (idle_device idle) (plan_bytes (plan_view plan)) + 5 + plan_bytes (plan_view plan)) image }
     ensures others { KeepsOthers D.Disk J.Journal disk.old disk.new }
-    ensures disk { IsErrOf result SessionFault.Disk → Rose (D.faults disk.old) (D.faults disk.new) }
+    ensures disk { HasDiskFailed result → Rose (D.faults disk.old) (D.faults disk.new) }
     ensures edge { IsErrOf result SessionFault.Output → Rose (K.faults sink.old) (K.faults sink.new) }
-    ensures quiet_disk { ¬ (IsErrOf result SessionFault.Disk) → D.faults disk.new ≡ D.faults disk.old }
+    ensures quiet_disk { ¬ (HasDiskFailed result) → D.faults disk.new ≡ D.faults disk.old }
     ensures quiet_sink { ¬ (IsErrOf result SessionFault.Output) → K.faults sink.new ≡ K.faults sink.old }
     ensures later { (D.faults disk.old ≤ D.faults disk.new) × (K.faults sink.old ≤ K.faults sink.new) }
 {

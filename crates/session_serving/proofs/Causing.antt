@@ -8,7 +8,7 @@ use Rattle.nuc_base.specs.declared.status.Status.TheVariants as statuses
 use Rattle.edges.specs.declared.inbox.InboxFault.{InboxFault}
 use Rattle.edges.specs.declared.inbox.InboxFault.TheVariants as faults
 use Rattle.deploy_state.specs.declared.state.Idle.{Idle}
-use Rattle.histories.specs.Courses.{gives_up, is_restart}
+use Rattle.histories.specs.Courses.{is_restart}
 use Rattle.session.specs.Calls.{IsOrEdge, HasNotFallen}
 use Rattle.session.specs.Parts.{IsBack, status_of_ran}
 use Rattle.session.specs.declared.ran.Ran.{Ran}
@@ -28,9 +28,6 @@ done_quiet = ((λ is. cc), (λ is. cc))
 pub memory_quiet : IsQuietStatus statuses.Memory
 memory_quiet = ((λ is. cc), (λ is. cc))
 
-pub stays_quietly : (status : Status) → gives_up status ≡ false → IsQuietStatus status
-stays_quietly status stays = ((λ is. false≢true (sym stays ∙ ap gives_up is)), (λ is. false≢true (sym stays ∙ ap gives_up is)))
-
 pub over_other : (status : Status) → IsOrEdge status statuses.TurnsOver → status ≢ statuses.Disk
 over_other status (inl is) disk = never (sym is ∙ disk)
   where
@@ -46,13 +43,20 @@ pub exact_quiet : {J : Type 0} (r : Turned J) (s : Idle J) → (r ≡ turned.On 
 exact_quiet r s (inl on) = subst (λ (x : Turned _). IsQuietStatus (status_of_turned x)) (sym on) done_quiet
 exact_quiet r s (inr over) = subst (λ (x : Turned _). IsQuietStatus (status_of_turned x)) (sym over) memory_quiet
 
-pub back_stays : {J : Type 0} (r : Ran J) → IsBack r → StaysRan r → gives_up (status_of_ran r) ≡ false
+pub back_stays : {J : Type 0} (r : Ran J) → IsBack r → StaysRan r → status_of_ran r ≢ statuses.Edge
 back_stays (ran.Back s status standing) back stays = stays.0
 back_stays (ran.Over status) back stays = absurd back
 
 pub restart_quiet : (status : Status) → is_restart status ≡ true → IsQuietStatus status
 restart_quiet status restarts =
     ((λ is. false≢true (sym (ap is_restart is) ∙ restarts)), (λ is. false≢true (sym (ap is_restart is) ∙ restarts)))
+
+-- what rose after it did not fall rose
+pub rose_since : (a b c : ℕ) → HasNotFallen a b → Rose b c → Rose a c
+rose_since a b c later rose = omega (arith, later, rose)
+
+stays_both : (a b c : ℕ) → HasNotFallen a b → HasNotFallen b c → HasNotFallen a c
+stays_both a b c one two = omega (arith, one, two)
 
 pub stays_same : (a : ℕ) → HasNotFallen a a
 stays_same a = omega arith
@@ -72,7 +76,6 @@ module _ (is_modelled : Bool) (files : List ℕ → Type 0) (status : Status) wh
   caused_none w quiet = record {
     disk = λ is. absurd (quiet.0 is);
     edge = λ is. absurd (quiet.1 is);
-    quiet_disk = λ disk edge. refl;
     quiet_edges = λ edge. (refl, refl);
     later = (stays_same w.disk, stays_same w.sink, stays_same w.inbox);
     library_later = omega arith;
@@ -83,20 +86,18 @@ module _ (is_modelled : Bool) (files : List ℕ → Type 0) (status : Status) wh
   pub caused_on : (old mid new : Observation) → IsCaused is_modelled files statuses.Done old mid → IsCaused is_modelled files status mid new →
       IsCaused is_modelled files status old new
   caused_on old mid new one two =
-      let disk : mid.disk ≡ old.disk = one.quiet_disk done_quiet.0 done_quiet.1 in
       let edges : (mid.sink ≡ old.sink) × (mid.inbox ≡ old.inbox) = one.quiet_edges done_quiet.1 in
       let first = one.library_later in
       let second = two.library_later in
       record {
-        disk = λ is. subst (λ (n : ℕ). Rose n new.disk) disk (two.disk is);
+        disk = λ is. let rose = two.disk is in rose_since old.disk mid.disk new.disk one.later.0 rose;
         edge = λ is. elim (two.edge is) [
           | inl rose ↦ inl (subst (λ (n : ℕ). Rose n new.sink) edges.0 rose)
           | inr rose ↦ inr (subst (λ (n : ℕ). Rose n new.inbox) edges.1 rose)
         ];
-        quiet_disk = λ no_disk no_edge. two.quiet_disk no_disk no_edge ∙ disk;
         quiet_edges = λ no_edge. let q = two.quiet_edges no_edge in (q.0 ∙ edges.0, q.1 ∙ edges.1);
         later = (
-          subst (λ (n : ℕ). HasNotFallen n new.disk) disk two.later.0,
+          stays_both old.disk mid.disk new.disk one.later.0 two.later.0,
           subst (λ (n : ℕ). HasNotFallen n new.sink) edges.0 two.later.1,
           subst (λ (n : ℕ). HasNotFallen n new.inbox) edges.1 two.later.2,
         );
@@ -110,7 +111,6 @@ module _ (is_modelled : Bool) (files : List ℕ → Type 0) (status : Status) wh
   caused_then old mid inbox quiet one same = caused_on old mid (record mid { inbox = inbox }) one (record {
     disk = λ is. absurd (quiet.0 is);
     edge = λ is. absurd (quiet.1 is);
-    quiet_disk = λ disk edge. refl;
     quiet_edges = λ edge. (refl, same);
     later = (stays_same mid.disk, stays_same mid.sink, stays_is mid.inbox inbox same);
     library_later = omega arith;
@@ -123,13 +123,12 @@ module _ (is_modelled : Bool) (files : List ℕ → Type 0) (status : Status) wh
 
 module _ (is_modelled : Bool) (files : List ℕ → Type 0) where
   -- as one in which nothing failed
-  pub caused_quiet : (status : Status) (old new : Observation) → IsQuietStatus status → IsCaused is_modelled files status old new →
+  pub caused_quiet : (status : Status) (old new : Observation) → status ≢ statuses.Edge → IsCaused is_modelled files status old new →
       IsCaused is_modelled files statuses.Done old new
   caused_quiet status old new quiet one = record {
     disk = λ is. absurd (done_quiet.0 is);
     edge = λ is. absurd (done_quiet.1 is);
-    quiet_disk = λ disk edge. one.quiet_disk quiet.0 quiet.1;
-    quiet_edges = λ edge. one.quiet_edges quiet.1;
+    quiet_edges = λ edge. one.quiet_edges quiet;
     later = one.later;
     library_later = one.library_later;
     others = one.others;
@@ -141,7 +140,6 @@ module _ (is_modelled : Bool) (files : List ℕ → Type 0) where
   caused_inbox status w sink inbox is rose later = record {
     disk = λ disk. absurd (never disk);
     edge = λ edge. inr rose;
-    quiet_disk = λ disk edge. refl;
     quiet_edges = λ edge. absurd (edge is);
     later = (stays_same w.disk, stays_after w.sink sink later, stays_rose w.inbox inbox rose);
     library_later = omega arith;
@@ -165,7 +163,6 @@ module _ (is_modelled : Bool) (files : List ℕ → Type 0) where
       record {
         disk = λ disk. absurd (other.0 disk);
         edge = λ edge. absurd (other.1 edge);
-        quiet_disk = λ disk edge. refl;
         quiet_edges = λ edge. (same edge, still);
         later = (stays_same w.disk, stays_after w.sink sink later, stays_is w.inbox inbox still);
         library_later = omega arith;
@@ -178,7 +175,6 @@ module _ (is_modelled : Bool) (files : List ℕ → Type 0) where
   caused_line status w sink other rose quiet later = record {
     disk = λ disk. absurd (other disk);
     edge = λ edge. inl (rose edge);
-    quiet_disk = λ disk edge. refl;
     quiet_edges = λ edge. (quiet edge, refl);
     later = (stays_same w.disk, stays_after w.sink sink later, stays_same w.inbox);
     library_later = omega arith;

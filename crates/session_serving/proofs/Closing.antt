@@ -1,5 +1,5 @@
 -- Want of memory leaves no deployment unfinished: the records are none, or end with a close.
-use Rattle.std.specs.Prelude.{ℕ, true, false, List, [], ◌∷◌, ◌++◌, Option}
+use Rattle.std.specs.Prelude.{ℕ, Bool, true, false, List, [], ◌∷◌, ◌++◌}
 use Rattle.std.proofs.Common.{◌≡◌, ◌≢◌, ◌∙◌, inl, inr, refl, sym, ap, subst, append_assoc}
 use Rattle.std.proofs.lemmas.Bool.{false≢true}
 use Rattle.std.proofs.lemmas.List.{append-nil}
@@ -17,7 +17,8 @@ use Rattle.session.specs.Endings.{Ending, BySinkFault, ByClose, ByDecline, ByDis
 use Rattle.session.specs.Endings.{ByRestart, WantBefore, status_of_ending}
 use Rattle.session_serving.specs.Documents.{IsOwnOrEdge, IsDeployedThere, RecordsEnd}
 use Rattle.session_serving.specs.Parts.{Outside}
-use Rattle.session_serving.specs.Rounds.{AreHandled, Handled, LastRound, Round, Shut, Spent, StoppedBy, Took, Waited, InboxFailed, WantOfMemory}
+use Rattle.session_serving.specs.Rounds.{AreHandled, GoesOn, Handled, LastRound, Round, Shut, Spent, StoppedBy, SweepFailed, Took, Waited, InboxFailed}
+use Rattle.session_serving.specs.Rounds.{WantOfMemory}
 use Rattle.session_serving.specs.Rounds.{records_of_last, records_of_rounds}
 use Rattle.session_serving.specs.Served.{AreClosed, EndsAs, IsResumedOrIdle, IsFinished, IsHalted, IsSetServed}
 
@@ -42,12 +43,14 @@ ends_closed NothingPending records d ends other = inl ends
 clash : (status : Status) → gives_up status ≡ true → gives_up status ≡ false → ⊥
 clash status on off = false≢true (sym off ∙ on)
 
-goes_on_other : (status : Status) → gives_up status ≡ false → is_restart status ≡ false → IsOther status
-goes_on_other status stays other = (
-  (λ is. clash status (ap gives_up is) stays),
-  (λ is. clash status (ap gives_up is) stays),
-  other,
-)
+-- where the call goes on behind it the records are none, or end with a close
+round_closed : (x : Handled) (ending : Ending) → GoesOn x → x.status ≡ status_of_ending ending → RecordsEnd ending x.records x.behind → AreClosed x.records
+round_closed x ending on is ends = by (gives_up x.status) refl
+  where
+    by : (b : Bool) → gives_up x.status ≡ b → AreClosed x.records
+    by true gives = inl (on.unmoved gives)
+    by false stays = ends_closed ending x.records x.behind ends
+        (subst IsOther is ((λ disk. clash x.status (ap gives_up disk) stays), on.edge, on.restart))
 
 memory_other : (status : Status) → statuses.Memory ≡ status → IsOther status
 memory_other status is = subst IsOther is ((λ same. cc), (λ same. cc), refl)
@@ -66,22 +69,21 @@ closed_both a b one (inr c) =
     inr (c.0, (a ++ c.1.0, ap (λ (l : List Record). a ++ l) c.1.1 ∙ sym (append_assoc a c.1.0 (Closed c.0 ∷ []))))
 closed_both a b one (inl none) = subst (λ (l : List Record). AreClosed (a ++ l)) (sym none) (subst AreClosed (sym (append-nil a)) one)
 
-module _ (content : Option Content) where
-  document_closed : (x : Handled) → IsDeployedThere content x → IsOther x.status → AreClosed x.records
-  document_closed x c other = ends_closed c.ending x.records x.behind c.ends (subst IsOther c.status other)
-
-  rounds_closed : (rounds : List Round) (d : Device) (n : ℕ) (e : Device) (m : ℕ) → AreHandled (IsDeployedThere content) d n rounds e m →
+module _ (content : Content) where
+  rounds_closed : (rounds : List Round) (d : Device) (n f : ℕ) (e : Device) (m g : ℕ) → AreHandled (IsDeployedThere content) d n f rounds e m g →
       AreClosed (records_of_rounds rounds)
-  rounds_closed [] d n e m h = inl refl
-  rounds_closed (Waited ∷ rounds) d n e m h = rounds_closed rounds d n e m h
-  rounds_closed (Took x ∷ rounds) d n e m h = closed_both x.records (records_of_rounds rounds) (document_closed x h.4 (goes_on_other x.status h.2 h.3))
-      (rounds_closed rounds x.behind x.after e m h.6)
+  rounds_closed [] d n f e m g h = inl refl
+  rounds_closed (Waited ∷ rounds) d n f e m g h = rounds_closed rounds d n f e m g h
+  rounds_closed (Took x ∷ rounds) d n f e m g h =
+      closed_both x.records (records_of_rounds rounds) (round_closed x h.4.ending h.3 h.4.status h.4.ends)
+      (rounds_closed rounds x.behind x.after x.disk_after e m g h.6)
 
   last_closed : {D : Type 0} (most : ℕ) (rounds : List Round) (last : LastRound) (old new : Outside D) (d : Device) →
       EndsAs (IsDeployedThere content) most rounds last statuses.Memory old new d → AreClosed (records_of_last last)
   last_closed most rounds Spent old new d ends = inl refl
   last_closed most rounds Shut old new d ends = inl refl
-  last_closed most rounds (StoppedBy x) old new d ends = document_closed x ends.clause (memory_other x.status (own_memory x.status ends.with_status))
+  last_closed most rounds (StoppedBy x) old new d ends = absurd (ends.memory refl)
+  last_closed most rounds SweepFailed old new d ends = inl refl
   last_closed most rounds InboxFailed old new d ends = inl refl
   last_closed most rounds WantOfMemory old new d ends = inl refl
 
@@ -89,7 +91,7 @@ module _ (content : Option Content) where
     served_closed : (most : ℕ) (old new : Outside D) (p : SessionState) (h : List TraceEvent) →
         IsSetServed disk journal (IsDeployedThere content) most old new p h statuses.Memory → AreClosed (records_of h)
     served_closed most old new p h s = subst AreClosed (sym s.records)
-        (closed_both (records_of_rounds s.rounds) (records_of_last s.last) (rounds_closed s.rounds p.device old.library s.behind s.to.library s.handled)
+        (closed_both (records_of_rounds s.rounds) (records_of_last s.last) (rounds_closed s.rounds p.device old.library old.faults s.behind s.to.library s.to.faults s.handled)
         (last_closed most s.rounds s.last s.to new s.behind s.ends))
 
     pub served_memory : (most : ℕ) (old new : Outside D) (p : SessionState) (h : List TraceEvent) (status : Status) →

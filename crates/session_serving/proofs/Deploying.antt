@@ -3,7 +3,9 @@ use Rattle.std.specs.Prelude.{◌⊎◌, ℕ, Bool, true, false, List, [], ◌�
 use Rattle.std.specs.List.{AllByRecursion}
 use Rattle.std.specs.Option.{IsSomeAnd}
 use Rattle.std.specs.Io.KnownBytes.{Appends}
-use Rattle.std.proofs.Common.{◌≡◌, ◌≢◌, ◌≤◌, ◌∙◌, inl, inr, refl, sym, ap, subst, arith}
+use Rattle.std.proofs.Common.{◌≡◌, ◌≢◌, ◌≤◌, ◌∙◌, inl, inr, refl, sym, ap, subst, append_assoc, arith}
+use Rattle.std.proofs.KnownBytes.{Appends-trans}
+use Rattle.std.proofs.lemmas.List.{append-nil}
 use Rattle.std.proofs.lemmas.Bool.{false≢true}
 use Rattle.disk_model.specs.Disk.{DiskLaws, HasLeft}
 use Rattle.disk_model.specs.declared.disk.Disk as a_disk
@@ -13,7 +15,7 @@ use Rattle.edges.specs.Pieces.{AppendsPrefix}
 use Rattle.nuc_base.specs.Faults.{Rose}
 use Rattle.nuc_base.specs.declared.status.Status.{Status}
 use Rattle.nuc_base.specs.declared.status.Status.TheVariants as statuses
-use Rattle.library_core.specs.Library.{Content}
+use Rattle.library_core.specs.Library.{Content, Extends}
 use Rattle.records.specs.Stored.{Record}
 use Rattle.records.specs.declared.record.Origin.{Origin}
 use Rattle.records.specs.declared.record.Plan as code
@@ -28,6 +30,7 @@ use Rattle.admission.specs.Takes.{HasDiskFailed, HasLibraryFailed, LieElsewhere}
 use Rattle.admission.specs.declared.fault.Declined.{Declined}
 use Rattle.artifact_store.specs.Holding.{AllHoldDevice}
 use Rattle.step_runner.specs.Entries.{Told}
+use Rattle.step_runner.specs.declared.entries.RunnerEntry.{RunnerEntry}
 use Rattle.components.specs.Components.{Components}
 use Rattle.histories.specs.Courses.{IsEnd, IsStateOf, gives_up, is_restart}
 use Rattle.histories.specs.Follows.{IsLast, MayChangeIn}
@@ -40,6 +43,7 @@ use Rattle.law_serving.proofs.Records.{idle_is, pending_idle}
 use Rattle.session_admission.specs.Accepts.{IsOpen}
 use Rattle.session_boots.specs.Ends.{StopsAt}
 use Rattle.session_boots.specs.Lines.{lines_of}
+use Rattle.session_boots.specs.Traces.{ActTrace}
 use Rattle.deploy_state.specs.Objects.{OwnsOver}
 use Rattle.session_steady.specs.Serves.{IsServing}
 use Rattle.session_acts.proofs.Entering.{comes_of}
@@ -48,17 +52,21 @@ use Rattle.session.proofs.Accepted.{accepted_at}
 use Rattle.session.specs.Documents.{AcceptsTaken, TakenEnding, TakesRead}
 use Rattle.session.specs.Endings.{Ending, IsBegun, WantBefore, is_failing, line_of_ending, status_of_ending}
 use Rattle.session.specs.Endings.{BySinkFault, ByClose, ByDecline, ByDiskFault, WantAfter, Full, Idle as NothingPending, ByReboot, ByRestart}
-use Rattle.session.specs.Parts.{EndsCall, EndsPart, EndsRan, IsGeneration, IsReturned, Part, QuitsPart, RanLeft, status_of_ran}
+use Rattle.session.specs.Parts.{CameBy, EndsCall, EndsRan, NoMemoryGoesOn, IsGeneration, IsReturned, Part, QuitsPart, RanLeft, must_end, status_of_ran}
 use Rattle.session.specs.declared.ran.Ran.{Ran}
 use Rattle.session.specs.declared.ran.Ran.TheVariants as ran
 use Rattle.session.specs.declared.ran.Standing.{Standing}
 use Rattle.session.specs.declared.ran.Standing.TheVariants as standings
-use Rattle.session_serving.specs.Documents.{IsOwnOrEdge, IsDeployedThere, IsEnded, IsHandled, IsOf, RecordsEnd}
-use Rattle.session_serving.specs.Parts.{AllStandFor, AreOfFiles, HistoryKept, IsStarted, Outside, IsStartShown}
+use Rattle.session_serving.specs.Documents.{IsOwnOrEdge, IsDeployedThere, IsEnded, IsHandled, IsOf, RecordsEnd, served_line, no_memory_line, want_line}
+use Rattle.session_serving.specs.Parts.{AllStandFor, AreOfFiles, HistoryKept, HoldsOn, IsStarted, Outside, IsStartShown}
 use Rattle.session_serving.specs.States.{IsAsked, IsUnopened}
 use Rattle.session_serving.specs.Rounds.{Handled}
 use Rattle.session_serving.specs.Turns.{DocumentLeft, IsReady, StaysRan}
+use Rattle.session_serving.proofs.Doing.{line_fails}
 use Rattle.session_serving.proofs.Images.{part_images, whole_now}
+use Rattle.session_serving.proofs.Joining.{prefix_behind}
+use Rattle.session_serving.proofs.Settling.{Stays, back_edge, over_settled, over_unsaid, prefix_more, settled, settled_accepts, settled_ends, settled_failing}
+use Rattle.session_serving.proofs.Settling.{settled_fails, settled_follows, settled_lines, settled_stays}
 
 clash : (b : Bool) → b ≡ true → b ≡ false → ⊥
 clash b on off = absurd (false≢true (sym off ∙ on))
@@ -134,7 +142,7 @@ ran_course (ran.Over status) p h before rose world told living ends quits left =
 -- it comes back with a status by which the call goes on
 pub stays_ran : {J : Type 0} (r : Ran J) (before : Generation) (rose : Bool) (q : SessionState) (world : Components) (told : Told) (living : List ℕ) →
     RanLeft before r rose q world told living → StaysRan r
-stays_ran (ran.Back s status standing) before rose q world told living left = (left.2, left.3)
+stays_ran (ran.Back s status standing) before rose q world told living left = (back_edge s status standing left.2 left.3, left.3)
 stays_ran (ran.Over status) before rose q world told living left = tt
 
 -- ---- the state behind it
@@ -247,19 +255,6 @@ starves_none start (Err d) ending records follows is = follows.1
 starves_none start (Ok plan) ending records (inl put) is = put.1
 starves_none start (Ok plan) ending records (inr begun) is = absurd (subst (λ (e : Ending). IsBegun e) is begun.0)
 
--- ---- the status
-
-pub not_edge : (status : Status) → gives_up status ≡ false → status ≢ statuses.Edge
-not_edge status stays is = clash (gives_up status) (ap gives_up is) stays
-
-pub own_status : (status own : Status) → IsOrEdge status own → gives_up status ≡ false → status ≡ own
-own_status status own (inl is) stays = is
-own_status status own (inr edge) stays = absurd (not_edge status stays edge)
-
-pub over_status : (status own : Status) → IsOrEdge status own → EndsCall status → IsOwnOrEdge own status
-over_status status own (inl is) ends = inl (is, subst EndsCall is ends)
-over_status status own (inr edge) ends = inr edge
-
 -- ---- the end is the same
 
 pub end_beside : (q r : SessionState) (a : Option Answer) (t : Bool) (p : SessionState) → r ≡ beside p a t q → (status : Status) (rose : Bool) →
@@ -274,33 +269,7 @@ end_beside q r a t p is status rose e = subst (λ (s : SessionState). IsEnd s st
   over = e.over;
 })
 
--- ---- how the records end
-
-no_records : (h : List TraceEvent) → AllByRecursion IsLast h → records_of h ≡ []
-no_records [] all = refl
-no_records (KilledOnAbort e ∷ h) all = no_records h all.1
-no_records (ReadClock m ∷ h) all = no_records h all.1
-no_records (RanEvent e k of ∷ h) all = absurd all.0
-no_records (Booted e m ∷ h) all = absurd all.0
-no_records (WaitElapsed e ∷ h) all = absurd all.0
-no_records (Recorded r ∷ h) all = absurd all.0
-no_records (Moved k e ∷ h) all = absurd all.0
-no_records (Heard k ∷ h) all = absurd all.0
-no_records (InboxAsked a ∷ h) all = absurd all.0
-no_records (Changed f c b ∷ h) all = absurd all.0
-no_records (StopsAll ∷ h) all = absurd all.0
-
-pub records_end : (p : SessionState) (ending : Ending) (h : List TraceEvent) → EndsPart p ending h → RecordsEnd ending (records_of h) (state_after p h).device
-records_end p (ByClose o) h ends = ends
-records_end p (ByRestart id) h ends = ends
-records_end p (ByReboot id) h ends = ends
-records_end p ByDiskFault h ends = tt
-records_end p BySinkFault h ends = tt
-records_end p WantAfter h ends = ends
-records_end p WantBefore h ends = no_records h ends.0
-records_end p (ByDecline x) h ends = no_records h ends.0
-records_end p (Full at) h ends = no_records h ends.0
-records_end p NothingPending h ends = no_records h ends.0.0
+-- ---- whether the disk failed
 
 failing_is : (ending : Ending) → is_failing ending ≡ true → ending ≡ ByDiskFault
 failing_is ByDiskFault on = refl
@@ -314,16 +283,12 @@ failing_is (ByDecline x) on = absurd (false≢true on)
 failing_is (Full at) on = absurd (false≢true on)
 failing_is NothingPending on = absurd (false≢true on)
 
--- a status by which the call goes on is not the disk's, nor the edge's
-pub stays_quiet : (status : Status) (before now : ℕ) → (status ≢ statuses.Disk → status ≢ statuses.Edge → now ≡ before) → gives_up status ≡ false → now ≡ before
-stays_quiet status before now quiet stays = quiet (λ is. clash (gives_up status) (ap gives_up is) stays) (not_edge status stays)
-
 -- ---- the whole of one document
 
 module _ {D J : Type 0} (disk : a_disk.Ghosts D) (journal : a_journal.Ghosts J)
     (laws : DiskLaws disk.is_modelled disk.seen disk.may_leave disk.moment disk.left_since)
     (own : JournalLaws journal.files journal.entries journal.holds_none journal.is_damaged journal.stands journal.end) (apart : LieElsewhere journal.files)
-    (files_own : AreOfFiles journal.files journal.entries) (content : Option Content) (idle : Idle J) (bytes : List ℕ) (old new : Outside D)
+    (files_own : AreOfFiles journal.files journal.entries) (content telling : Content) (extends : Extends content telling) (idle : Idle J) (bytes : List ℕ) (old new : Outside D)
     (held : OwnsOver disk journal OwnsIdle idle old.disk) (p : SessionState) (world : Components) (told : Told) (living : List ℕ)
     (asked : IsAsked document p (idle_device idle) world told living) where
   abbrev Start : ℕ → ℕ
@@ -347,7 +312,7 @@ module _ {D J : Type 0} (disk : a_disk.Ghosts D) (journal : a_journal.Ghosts J)
       (part : Part journal.entries journal.files disk.may_leave disk.moment disk.left_since old.disk new.disk old.list new.list old.held new.held (alone p)
       status leaves)
       (alike : ServesAlike p part.history) (taken : Result code.Plan Declined)
-      (takes : (o : Origin) → (idle_device idle).origin ≡ Some o → TakesRead (idle_device idle) o content old.library new.library bytes taken)
+      (takes : (o : Origin) → (idle_device idle).origin ≡ Some o → TakesRead (idle_device idle) o telling old.library new.library bytes taken)
       (follows : TakenEnding Start taken part.ending (records_of part.history))
       (failed : part.ending ≡ ByDiskFault → Rose old.faults new.faults) (disk_cause : HasDiskFailed taken → Rose old.faults new.faults)
       (library_cause : HasLibraryFailed taken → Rose old.library new.library) (library_later : old.library ≤ new.library)
@@ -358,6 +323,9 @@ module _ {D J : Type 0} (disk : a_disk.Ghosts D) (journal : a_journal.Ghosts J)
     abbrev H : List TraceEvent
     H = part.history
 
+    abbrev E : Ending
+    E = settled (alone p) H part.ending part.ends
+
     abbrev X : Handled
     X = record {
       bytes = bytes;
@@ -366,8 +334,8 @@ module _ {D J : Type 0} (disk : a_disk.Ghosts D) (journal : a_journal.Ghosts J)
       printed_records = part.prints.printed_records;
       unprinted_records = part.prints.rest;
       behind = (state_after p H).device;
-      lines = lines_of (idle_device idle) part.prints.printed_records ++ line_of_ending part.ending;
-      status = status_of_ending part.ending;
+      lines = lines_of (idle_device idle) part.prints.printed_records ++ served_line E;
+      status = status_of_ending E;
       before = old.library;
       after = new.library;
       disk_before = old.faults;
@@ -387,45 +355,64 @@ module _ {D J : Type 0} (disk : a_disk.Ghosts D) (journal : a_journal.Ghosts J)
       whole = whole;
     }
 
+    -- the same of what it is to a call that serves
+    own_fails : E ≡ ByDiskFault → part.ending ≡ ByDiskFault
+    own_fails is = settled_fails (alone p) H part.ending part.ends is
+
+    own_follows : TakenEnding Start taken E (records_of H)
+    own_follows = settled_follows (alone p) H Start taken part.ending part.ends follows
+
+    own_accepts : AcceptsTaken journal.entries disk.may_leave disk.moment disk.left_since old.disk new.disk (idle_device idle) Start taken E (records_of H)
+    own_accepts = settled_accepts (alone p) H journal.entries disk.may_leave disk.moment disk.left_since old.disk new.disk (idle_device idle) Start taken
+        part.ending part.ends accepts
+
     clause : IsDeployedThere content X
     clause = record {
       regular = held.0.regular;
       taken = taken;
+      told = telling;
+      extends = extends;
       takes = takes;
       library_cause = library_cause;
       library_later = library_later;
-      ending = part.ending;
-      follows = follows;
-      ends = subst (λ (x : Device). RecordsEnd part.ending (records_of H) x) (sym same) (records_end (alone p) part.ending H part.ends);
-      failed = failed;
+      ending = E;
+      follows = own_follows;
+      ends = subst (λ (x : Device). RecordsEnd E (records_of H) x) (sym same) (settled_ends (alone p) H part.trace.run part.ending part.ends);
+      failed = λ is. failed (own_fails is);
       disk_cause = disk_cause;
       status = refl;
       split = part.prints.split;
       few = part.prints.few;
-      all = part.prints.all;
+      all = λ other. part.prints.all (λ is. other (settled_failing (alone p) H part.ending part.ends is));
       lines = refl;
     }
 
-    -- its lines
-    lines_is : call_lines p.device part.prints.printed_records part.ending ≡ X.lines
+    -- its lines: those of a call of its own, and want of memory
+    abbrev Said : List ℕ
+    Said = call_lines p.device part.prints.printed_records part.ending
+
+    lines_is : Said ++ want_line X.status ≡ X.lines
     lines_is =
-        ap (λ (x : Device). call_lines x part.prints.printed_records part.ending) asked.device_is
-        ∙ lines_at (idle_device idle) part.prints.printed_records part.ending held.1
+        ap (λ (l : List ℕ). l ++ want_line X.status)
+        (sym (settled_lines (alone p) H part.ending part.ends p.device part.prints.printed_records)
+        ∙ ap (λ (x : Device). call_lines x part.prints.printed_records E) asked.device_is
+        ∙ lines_at (idle_device idle) part.prints.printed_records E held.1
         (λ is. prefix_none part.prints.printed_records part.prints.rest (records_of H) part.prints.split
-        (starves_none Start taken part.ending (records_of H) follows is))
+        (starves_none Start taken E (records_of H) own_follows is)))
+        ∙ append_assoc (lines_of (idle_device idle) part.prints.printed_records) (line_of_ending E) (want_line X.status)
 
     starts : IsStarted disk journal old.disk new.disk X
     starts = (
       (λ told_is. let s = starts_here told_is in (s.0, goes.images.keeps (disk.moment old.disk) s.0 (omega arith) s.1, s.2)),
-      (λ plan rest is. elim (accepted_at journal.entries disk.may_leave disk.moment disk.left_since old.disk new.disk (idle_device idle) Start part.ending
-          (records_of H) rest plan is taken follows accepts) [
-            | inl fails ↦ inl (fails.1, failed fails.0)
+      (λ plan rest is. elim (accepted_at journal.entries disk.may_leave disk.moment disk.left_since old.disk new.disk (idle_device idle) Start E
+          (records_of H) rest plan is taken own_follows own_accepts) [
+            | inl fails ↦ inl (fails.1, failed (own_fails fails.0))
             | inr there ↦ inr there
           ]),
     )
 
-    is_of : IsOf disk journal (IsDeployedThere content) old new p H X
-    is_of = record {
+    is_of : (last : Option (List ℕ)) → IsOf disk journal (IsDeployedThere content) old (record new { held = last }) p H X
+    is_of last = record {
       records = refl;
       device = sym asked.device_is;
       behind = refl;
@@ -437,26 +424,49 @@ module _ {D J : Type 0} (disk : a_disk.Ghosts D) (journal : a_journal.Ghosts J)
       starts = starts;
     }
 
-    -- the call goes on
-    handled_at : gives_up status ≡ false → is_restart status ≡ false → new.faults ≡ old.faults → AllStandFor disk journal new.disk (state_after p H).device →
-        IsHandled disk journal (IsDeployedThere content) old new p H X
-    handled_at stays other quiet stands =
-        let is = own_status status (status_of_ending part.ending) part.answers stays in
-        record {
-          goes = goes;
-          stands = stands;
-          holds = λ all. whole_now disk journal laws apart files_own own old.disk new.disk p.device (state_after p H).device (records_of H) (whole all) stands;
-          lines = subst (λ (l : List ℕ). Appends old.held new.held l) lines_is (part.prints.whole (not_edge status stays));
-          is_of = is_of;
-          stays = (sym (ap gives_up is) ∙ stays, sym (ap is_restart is) ∙ other);
-          turns = turns_same p H alike;
-          faults = quiet;
-        }
+    holds_at : AllStandFor disk journal new.disk (state_after p H).device → HoldsOn disk journal old.disk new.disk p H
+    holds_at stands all = whole_now disk journal laws apart files_own own old.disk new.disk p.device (state_after p H).device (records_of H) (whole all) stands
+
+    -- where it comes back
+    module _ (s : Idle J) (standing : Standing) (on : must_end status standing ≡ false) (other : is_restart status ≡ false)
+        (came : CameBy {J = J} (ran.Back s status standing) (records_of H)) (rose : status ≡ statuses.Disk → Rose old.faults new.faults)
+        (quiet : status ≢ statuses.Disk → status ≢ statuses.Edge → new.faults ≡ old.faults)
+        (stands : AllStandFor disk journal new.disk (state_after p H).device) where
+      stay : Stays (status_of_ending E) old.faults new.faults (records_of H) × (want_line (status_of_ending E) ≡ no_memory_line status standing)
+      stay = settled_stays s status standing on other (alone p) H old.faults new.faults came rose quiet part.ending part.ends part.answers
+
+      -- the call goes on, with this line
+      handled_at : (last : Option (List ℕ)) → Appends new.held last (no_memory_line status standing) →
+          IsHandled disk journal (IsDeployedThere content) old (record new { held = last }) p H X
+      handled_at last said =
+          let t = stay in
+          record {
+            goes = goes;
+            stands = stands;
+            holds = holds_at stands;
+            lines = subst (λ (l : List ℕ). Appends old.held last l) lines_is
+                (Appends-trans old.held new.held last Said (want_line X.status) (part.prints.whole (back_edge s status standing on other))
+                (subst (λ (l : List ℕ). Appends new.held last l) (sym t.1) said));
+            is_of = is_of last;
+            stays = record { edge = t.0.edge; restart = t.0.restart; disk = t.0.disk; quiet = t.0.quiet; unmoved = t.0.unmoved };
+            turns = turns_same p H alike;
+          }
+
+      -- that line could not be written
+      unsaid_at : (c : Option (List RunnerEntry)) (last : Option (List ℕ)) (g : List TraceEvent) → AppendsPrefix new.held last (no_memory_line status standing) →
+          ActTrace (state_after p H) g new.list c → IsEnd (state_after (state_after p H) g) statuses.Edge false →
+          IsEnded disk journal (IsDeployedThere content) old (record new { list = c; held = last }) p (g ++ H) X statuses.Edge false
+      unsaid_at c last g said acts end =
+          line_fails disk journal laws (IsDeployedThere content) old new p H X c last g goes stands (holds_at stands) (is_of new.held) acts
+          (subst (λ (l : List ℕ). AppendsPrefix old.held last l) lines_is
+          (prefix_behind old.held new.held last Said (want_line X.status) (part.prints.whole (back_edge s status standing on other))
+          (subst (λ (l : List ℕ). AppendsPrefix new.held last l) (sym stay.1) said))) end
 
     -- it ends
-    ended_at : EndsCall status → (rose : Bool) → (rose ≡ true → Rose old.faults new.faults) → IsEnd (state_after (alone p) H) status rose →
-        IsEnded disk journal (IsDeployedThere content) old new p H X status rose
-    ended_at ends rose cause end = record {
+    ended_at : EndsCall status → status ≢ statuses.Memory → (status ≡ statuses.Disk → Rose old.faults new.faults) →
+        (status ≢ statuses.Disk → status ≢ statuses.Edge → new.faults ≡ old.faults) → IsEnd (state_after (alone p) H) status (is_failing part.ending) →
+        IsEnded disk journal (IsDeployedThere content) old new p H X status (is_failing part.ending)
+    ended_at ends memory rose quiet end = record {
       goes = goes;
       sure = record {
         most = part.stands;
@@ -469,67 +479,103 @@ module _ {D J : Type 0} (disk : a_disk.Ghosts D) (journal : a_journal.Ghosts J)
       lines = X.lines;
       says = inl refl;
       writes = record {
-        prefix = subst (λ (l : List ℕ). AppendsPrefix old.held new.held l) lines_is part.prints.prefix;
-        all = λ other. subst (λ (l : List ℕ). Appends old.held new.held l) lines_is (part.prints.whole other);
+        prefix = subst (λ (l : List ℕ). AppendsPrefix old.held new.held l) lines_is
+            (prefix_more old.held new.held Said (want_line X.status) part.prints.prefix);
+        all = λ other. subst (λ (l : List ℕ). Appends old.held new.held l)
+            (sym (append-nil Said) ∙ ap (λ (l : List ℕ). Said ++ l) (sym (over_unsaid status (alone p) H part.ending part.ends memory other part.answers))
+            ∙ lines_is) (part.prints.whole other);
       };
-      is_of = is_of;
-      with_status = over_status status (status_of_ending part.ending) part.answers ends;
-      cause = cause;
-      end = end_beside (state_after (alone p) H) (state_after p H) alike.answer alike.taken p alike.state_is status rose end;
+      is_of = is_of new.held;
+      with_status = over_settled status (alone p) H part.ending part.ends memory ends part.answers;
+      memory = memory;
+      failed = rose;
+      quiet = quiet;
+      cause = λ on. failed (failing_is part.ending on);
+      end = end_beside (state_after (alone p) H) (state_after p H) alike.answer alike.taken p alike.state_is status (is_failing part.ending) end;
     }
 
   -- what the handling leaves
-  module _ (r : Ran J) (later : Components) (now : Told) (lives : List ℕ) (ends : EndsRan r)
+  module _ (r : Ran J) (later : Components) (now : Told) (lives : List ℕ)
       (part : Part journal.entries journal.files disk.may_leave disk.moment disk.left_since old.disk new.disk old.list new.list old.held new.held (alone p)
       (status_of_ran r) (λ ending q. RanLeft p.generation r (is_failing ending) q later now lives))
       (alike : ServesAlike p part.history) (taken : Result code.Plan Declined)
-      (takes : (o : Origin) → (idle_device idle).origin ≡ Some o → TakesRead (idle_device idle) o content old.library new.library bytes taken)
-      (follows : TakenEnding Start taken part.ending (records_of part.history))
+      (takes : (o : Origin) → (idle_device idle).origin ≡ Some o → TakesRead (idle_device idle) o telling old.library new.library bytes taken)
+      (follows : TakenEnding Start taken part.ending (records_of part.history)) (came : CameBy r (records_of part.history))
       (failed : part.ending ≡ ByDiskFault → Rose old.faults new.faults) (disk_cause : HasDiskFailed taken → Rose old.faults new.faults)
       (library_cause : HasLibraryFailed taken → Rose old.library new.library) (library_later : old.library ≤ new.library)
       (whole : AllHoldDevice (disk.may_leave old.disk) p.device → HasLeft disk.moment disk.left_since old.disk new.disk
       (StandsWhole journal.entries p.device (records_of part.history)))
       (accepts : AcceptsTaken journal.entries disk.may_leave disk.moment disk.left_since old.disk new.disk (idle_device idle) Start taken part.ending
-      (records_of part.history)) where
-    pub document_left : (gives_up (status_of_ran r) ≡ false → new.faults ≡ old.faults) → ((s : Idle J) → (st : Status) → (standing : Standing) →
-        r ≡ ran.Back s st standing →
-        AllStandFor disk journal new.disk (idle_device s)) →
-        DocumentLeft disk journal (IsDeployedThere content) bytes r old new p part.history later now lives
-    document_left quiet stands = by r refl part.left ends stands
-      where
-        by : (x : Ran J) → r ≡ x → RanLeft p.generation x (is_failing part.ending) (state_after (alone p) part.history) later now lives → EndsRan x →
-            ((s : Idle J) → (st : Status) → (standing : Standing) → r ≡ ran.Back s st standing → AllStandFor disk journal new.disk (idle_device s)) →
-            DocumentLeft disk journal (IsDeployedThere content) bytes x old new p part.history later now lives
-        by (ran.Back s st standing) is left end there =
-            let status_is : status_of_ran r ≡ st = ap status_of_ran is in
-            let q = state_after (alone p) part.history in (
-              X (status_of_ran r) (λ ending q. RanLeft p.generation r (is_failing ending) q later now lives) part alike taken takes follows failed
-                  disk_cause library_cause library_later whole accepts,
-              refl,
-              handled_at (status_of_ran r) (λ ending q. RanLeft p.generation r (is_failing ending) q later now lives) part alike taken takes follows failed
-                  disk_cause
-                  library_cause library_later whole accepts (ap gives_up status_is ∙ left.2) (ap is_restart status_is ∙ left.3)
-                  (quiet (ap gives_up status_is ∙ left.2))
-                  (subst (λ (x : Device). AllStandFor disk journal new.disk x)
-                  (sym (device_same p part.history alike ∙ left.0.stands.device_is)) (there s st standing is)),
-              subst (λ (z : SessionState). IsReady standing z (idle_device s) later now lives) (sym alike.state_is)
-                  (ready_beside standing p alike.answer alike.taken q (idle_device s) later now lives left.0 left.1 asked.steady.generation
-                  asked.steady.opened (done_of p alike.answer alike.answered
-                  (subst (λ (o : Option Answer). IfSome o (λ x. is_document x ≡ true)) (sym asked.answer_is) refl))),
-            )
-        by (ran.Over st) is left end there =
-            let status_is : status_of_ran r ≡ st = ap status_of_ran is in
-            let e = ended_at (status_of_ran r) (λ ending q. RanLeft p.generation r (is_failing ending) q later now lives) part alike taken takes follows
-            failed disk_cause
-            library_cause library_later whole accepts (subst EndsCall (sym status_is) end) (is_failing part.ending)
-            (λ on. failed (failing_is part.ending on))
-            (subst (λ (z : Status). IsEnd (state_after (alone p) part.history) z (is_failing part.ending)) (sym status_is) left) in (
-              X (status_of_ran r) (λ ending q. RanLeft p.generation r (is_failing ending) q later now lives) part alike taken takes follows failed
-                  disk_cause library_cause library_later whole accepts,
-              is_failing part.ending,
-              refl,
-              subst (λ (z : Status). IsEnded disk journal (IsDeployedThere content) old new p part.history
-                  (X (status_of_ran r) (λ ending q. RanLeft p.generation r (is_failing ending) q later now lives) part alike taken takes follows failed
-                  disk_cause library_cause library_later whole accepts)
-                  z (is_failing part.ending)) status_is e,
-            )
+      (records_of part.history)) (rose : status_of_ran r ≡ statuses.Disk → Rose old.faults new.faults)
+      (quiet : status_of_ran r ≢ statuses.Disk → status_of_ran r ≢ statuses.Edge → new.faults ≡ old.faults) where
+    abbrev Leaves : Ending → SessionState → Type 0
+    Leaves ending q = RanLeft p.generation r (is_failing ending) q later now lives
+
+    abbrev pub Document : Handled
+    Document = X (status_of_ran r) Leaves part alike taken takes follows failed disk_cause library_cause library_later whole accepts
+
+    module _ (s : Idle J) (st : Status) (standing : Standing) (is : r ≡ ran.Back s st standing)
+        (there : AllStandFor disk journal new.disk (idle_device s)) where
+      left : RanLeft p.generation (ran.Back s st standing) (is_failing part.ending) (state_after (alone p) part.history) later now lives
+      left = subst (λ (x : Ran J). RanLeft p.generation x (is_failing part.ending) (state_after (alone p) part.history) later now lives) is part.left
+
+      on : must_end (status_of_ran r) standing ≡ false
+      on = ap (λ (z : Status). must_end z standing) (ap status_of_ran is) ∙ left.2
+
+      stays : is_restart (status_of_ran r) ≡ false
+      stays = ap is_restart (ap status_of_ran is) ∙ left.3
+
+      came_as : CameBy {J = J} (ran.Back s (status_of_ran r) standing) (records_of part.history)
+      came_as = subst (λ (z : Status). CameBy {J = J} (ran.Back s z standing) (records_of part.history)) (sym (ap status_of_ran is))
+          (subst (λ (x : Ran J). CameBy x (records_of part.history)) is came)
+
+      stand : AllStandFor disk journal new.disk (state_after p part.history).device
+      stand = subst (λ (x : Device). AllStandFor disk journal new.disk x) (sym (device_same p part.history alike ∙ left.0.stands.device_is)) there
+
+      pub ready_left : IsReady standing (state_after p part.history) (idle_device s) later now lives
+      ready_left = subst (λ (z : SessionState). IsReady standing z (idle_device s) later now lives) (sym alike.state_is)
+          (ready_beside standing p alike.answer alike.taken (state_after (alone p) part.history) (idle_device s) later now lives left.0 left.1
+          asked.steady.generation asked.steady.opened (done_of p alike.answer alike.answered
+          (subst (λ (o : Option Answer). IfSome o (λ x. is_document x ≡ true)) (sym asked.answer_is) refl)))
+
+      pub back_left : (last : Option (List ℕ)) → Appends new.held last (no_memory_line st standing) →
+          DocumentLeft disk journal (IsDeployedThere content) bytes (ran.Back s st standing) old (record new { held = last }) p part.history later now lives
+      back_left last said = (
+        Document,
+        refl,
+        handled_at (status_of_ran r) Leaves part alike taken takes follows failed disk_cause library_cause library_later whole accepts s standing on stays
+            came_as rose quiet stand last
+            (subst (λ (z : Status). Appends new.held last (no_memory_line z standing)) (sym (ap status_of_ran is)) said),
+        ready_left,
+      )
+
+      pub unsaid_left : (c : Option (List RunnerEntry)) (last : Option (List ℕ)) (g : List TraceEvent) (told_last : Told) (lives_last : List ℕ) →
+          AppendsPrefix new.held last (no_memory_line st standing) → ActTrace (state_after p part.history) g new.list c →
+          IsEnd (state_after (state_after p part.history) g) statuses.Edge false →
+          DocumentLeft {J = J} disk journal (IsDeployedThere content) bytes (ran.Over statuses.Edge) old (record new { list = c; held = last }) p
+          (g ++ part.history) later told_last lives_last
+      unsaid_left c last g told_last lives_last said acts end = (
+        Document,
+        false,
+        refl,
+        unsaid_at (status_of_ran r) Leaves part alike taken takes follows failed disk_cause library_cause library_later whole accepts s standing on stays
+            came_as rose quiet stand c last g
+            (subst (λ (z : Status). AppendsPrefix new.held last (no_memory_line z standing)) (sym (ap status_of_ran is)) said) acts end,
+      )
+
+    pub over_left : (st : Status) → r ≡ ran.Over st → EndsRan r → NoMemoryGoesOn r →
+        DocumentLeft {J = J} disk journal (IsDeployedThere content) bytes (ran.Over st) old new p part.history later now lives
+    over_left st is ends memory =
+        let status_is : status_of_ran r ≡ st = ap status_of_ran is in
+        let own_ends : EndsCall st = subst EndsRan is ends in
+        let own_memory : st ≢ statuses.Memory = subst NoMemoryGoesOn is memory in
+        let end : IsEnd (state_after (alone p) part.history) st (is_failing part.ending) =
+        subst (λ (x : Ran J). RanLeft p.generation x (is_failing part.ending) (state_after (alone p) part.history) later now lives) is part.left in (
+          Document,
+          is_failing part.ending,
+          refl,
+          subst (λ (z : Status). IsEnded disk journal (IsDeployedThere content) old new p part.history Document z (is_failing part.ending)) status_is
+              (ended_at (status_of_ran r) Leaves part alike taken takes follows failed disk_cause library_cause library_later whole accepts
+              (subst EndsCall (sym status_is) own_ends) (λ memory. own_memory (sym status_is ∙ memory)) rose quiet
+              (subst (λ (z : Status). IsEnd (state_after (alone p) part.history) z (is_failing part.ending)) (sym status_is) end)),
+        )

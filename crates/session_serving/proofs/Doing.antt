@@ -21,7 +21,7 @@ use Rattle.histories.specs.TraceEvents.{TraceEvent, records_of}
 use Rattle.histories.proofs.Joined.{left-append, records-append}
 use Rattle.session_boots.specs.Traces.{ActTrace}
 use Rattle.session_serving.specs.Documents.{IsDone, IsEnded, IsHandled, IsLastDone, IsOf}
-use Rattle.session_serving.specs.Parts.{CallEnded, Outside}
+use Rattle.session_serving.specs.Parts.{CallEnded, HistoryKept, HoldsOn, Outside}
 use Rattle.session_serving.specs.Rounds.{Handled, SaysStopped, WantOfMemory, inbox_fault_line}
 use Rattle.session_serving.specs.Turns.{EndsBy}
 use Rattle.session_serving.proofs.Joining.{Stood, goes_acts, goes_both, holds_acts, holds_both, prefix_behind, stands_acts, sure_acts, sure_run}
@@ -34,6 +34,13 @@ done_as o answered waiting = record o { answered = answered; waiting = waiting }
 said_all : (x : Handled) (status : Status) (lines : List ℕ) → is_restart status ≡ true → SaysStopped x status lines → lines ≡ x.lines
 said_all x status lines restarts (inl is) = is
 said_all x status lines restarts (inr both) = absurd (false≢true (sym (ap is_restart both.1) ∙ restarts))
+
+-- a fault of an edge is no want of memory, and none of the disk
+pub edge_memory : statuses.Edge ≡ statuses.Memory → ⊥
+edge_memory is = cc
+
+pub edge_disk : statuses.Edge ≡ statuses.Disk → ⊥
+edge_disk is = cc
 
 -- with 6 a call ends from wherever no child lives, and it has none before: no matter what stands
 pub at_edge : (p : SessionState) (status : Status) (rose : Bool) → status ≡ statuses.Edge → IsEnd p statuses.Edge rose → IsEnd p status rose
@@ -86,7 +93,6 @@ module _ {D J : Type 0} (disk : a_disk.Ghosts D) (journal : a_journal.Ghosts J)
       is_of = of_as new.list new.held answered waiting i.is_of;
       stays = i.stays;
       turns = i.turns;
-      faults = i.faults;
     };
     answered = counted;
     given = told;
@@ -110,10 +116,37 @@ module _ {D J : Type 0} (disk : a_disk.Ghosts D) (journal : a_journal.Ghosts J)
           is_of = of_then c new.held new.answered new.waiting c g i.is_of acts;
           stays = i.stays;
           turns = ap (λ (q : SessionState). q.turns) left ∙ turns ∙ i.turns;
-          faults = i.faults;
         };
         answered = d.answered;
         given = d.given;
+      }
+
+  -- its line could not be written
+  pub line_fails : (c : Option (List RunnerEntry)) (told : Option (List ℕ)) (g : List TraceEvent) →
+      HistoryKept disk journal old.disk new.disk old.list new.list p h → Stood disk journal laws new.disk (state_after p h).device →
+      HoldsOn disk journal old.disk new.disk p h → IsOf disk journal Clause old new p h x → ActTrace (state_after p h) g new.list c →
+      AppendsPrefix old.held told x.lines → IsEnd (state_after (state_after p h) g) statuses.Edge false →
+      IsEnded disk journal Clause old (record new { list = c; held = told }) p (g ++ h) x statuses.Edge false
+  line_fails c told g kept stands holds o acts line end =
+      let left = left-append p g h in
+      let tail = goes_acts disk journal laws new.disk new.list c (state_after p h) g stands acts in
+      let goes = goes_both disk journal laws old.disk new.disk new.disk old.list new.list c p h g kept holds tail in
+      let there = subst (λ (q : SessionState). Stood disk journal laws new.disk q.device) (sym left)
+      (stands_acts disk journal laws new.disk new.list c (state_after p h) g stands acts) in
+      record {
+        goes = goes;
+        sure = sure_run disk journal laws new.disk p (g ++ h) goes.run there;
+        stable = λ told_all. there;
+        lines = x.lines;
+        says = inl refl;
+        writes = record { prefix = line; all = λ other. absurd (other refl) };
+        is_of = of_then c told new.answered new.waiting c g o acts;
+        with_status = inr refl;
+        memory = edge_memory;
+        failed = λ failed. absurd (edge_disk failed);
+        quiet = λ disk edge. absurd (edge refl);
+        cause = λ on. absurd (false≢true on);
+        end = subst (λ (q : SessionState). IsEnd q statuses.Edge false) (sym left) end;
       }
 
   -- it could not be done
@@ -139,6 +172,9 @@ module _ {D J : Type 0} (disk : a_disk.Ghosts D) (journal : a_journal.Ghosts J)
           writes = record { prefix = prefix_behind old.held new.held told x.lines l i.lines line; all = λ other. absurd (other is) };
           is_of = of_then c told answered waiting c g i.is_of acts;
           with_status = inr is;
+          memory = λ none. edge_memory (sym is ∙ none);
+          failed = λ failed. absurd (edge_disk (sym is ∙ failed));
+          quiet = λ disk edge. absurd (edge is);
           cause = λ on. absurd (false≢true on);
           end = subst (λ (q : SessionState). IsEnd q status false) (sym left) (at_edge (state_after (state_after p h) g) status false is end);
         };
@@ -161,6 +197,9 @@ module _ {D J : Type 0} (disk : a_disk.Ghosts D) (journal : a_journal.Ghosts J)
       writes = record { prefix = i.writes.prefix; all = i.writes.all };
       is_of = of_as new.list new.held answered waiting i.is_of;
       with_status = i.with_status;
+      memory = i.memory;
+      failed = i.failed;
+      quiet = i.quiet;
       cause = i.cause;
       end = i.end;
     };
@@ -188,6 +227,9 @@ module _ {D J : Type 0} (disk : a_disk.Ghosts D) (journal : a_journal.Ghosts J)
       };
       is_of = of_as new.list told answered waiting i.is_of;
       with_status = inr is;
+      memory = λ none. edge_memory (sym is ∙ none);
+      failed = λ failed. absurd (edge_disk (sym is ∙ failed));
+      quiet = λ disk edge. absurd (edge is);
       cause = i.cause;
       end = at_edge (state_after p h) status rose is end;
     };
@@ -211,6 +253,8 @@ module _ {D J : Type 0} (disk : a_disk.Ghosts D) (journal : a_journal.Ghosts J)
     records = acts.none;
     why = (refl, record { answered = refl; waiting = refl; library = refl });
     starts = tt;
+    failed = λ is. absurd cc;
+    quiet = λ disk edge. refl;
     cause = λ on. absurd (false≢true on);
     end = end;
   }

@@ -22,7 +22,7 @@ use Rattle.histories.proofs.Joined.{left-append, records-append}
 use Rattle.session_boots.specs.Traces.{ActTrace, StandsForPrefix}
 use Rattle.session.specs.Calls.{IsOrEdge}
 use Rattle.session_serving.specs.Parts.{CallEnded, HistoryKept, IsStarted, IsSure, Outside, TurnsPassed}
-use Rattle.session_serving.specs.Rounds.{AreHandled, AreStarted, InboxFailed, Handled, LastRound, Round, Shut, Spent, WantOfMemory, StoppedBy}
+use Rattle.session_serving.specs.Rounds.{AreHandled, AreStarted, InboxFailed, Handled, LastRound, Round, Shut, Spent, SweepFailed, WantOfMemory, StoppedBy}
 use Rattle.session_serving.specs.Rounds.{lines_of_rounds, records_of_last}
 use Rattle.session_serving.specs.Rounds.{SaysLast, asked_of_last, questions_of, records_of_rounds, round_of_last, unprinted_of_last}
 use Rattle.session_serving.specs.Served.{EndsAs, IsSetServed, ended_line}
@@ -36,6 +36,7 @@ pub ended_as : (Clause : Handled → Type 0) (most : ℕ) {D : Type 0} (rounds :
 ended_as Clause most rounds Spent status old new d by = absurd by
 ended_as Clause most rounds Shut status old new d by = absurd by
 ended_as Clause most rounds (StoppedBy x) status old new d by = by
+ended_as Clause most rounds SweepFailed status old new d by = by
 ended_as Clause most rounds InboxFailed status old new d by = by
 ended_as Clause most rounds WantOfMemory status old new d by = by
 
@@ -46,6 +47,7 @@ pub not_spent : (Clause : Handled → Type 0) {D : Type 0} (last : LastRound) (s
 not_spent Clause Spent status old new d by is = by
 not_spent Clause Shut status old new d by is = by
 not_spent Clause (StoppedBy x) status old new d by is = cc
+not_spent Clause SweepFailed status old new d by is = cc
 not_spent Clause InboxFailed status old new d by is = cc
 not_spent Clause WantOfMemory status old new d by is = cc
 
@@ -63,10 +65,11 @@ module _ {D J : Type 0} (disk : a_disk.Ghosts D) (journal : a_journal.Ghosts J)
       (status ≢ statuses.Edge → Appends to.held new.held lines) → (last ≡ Spent → lines ≡ ended_line most) →
       SaysLast last status lines →
       (unprinted_of_last last ≡ [] → Stood disk journal laws new.disk (state_after (state_after p h) g).device) →
-      AreStarted (IsStarted disk journal to.disk new.disk) (round_of_last last) → (rose ≡ true → Rose to.faults new.faults) →
+      AreStarted (IsStarted disk journal to.disk new.disk) (round_of_last last) → (status ≡ statuses.Disk → Rose to.faults new.faults) →
+      (status ≢ statuses.Disk → status ≢ statuses.Edge → new.faults ≡ to.faults) → (rose ≡ true → Rose to.faults new.faults) →
       IsEnd (state_after (state_after p h) g) status rose →
       IsSetServed disk journal Clause most old new p (g ++ h) status
-  ended most old to new p h g rounds last status rose lines turns few tail sure records ends prefix whole spent says stable shown cause end =
+  ended most old to new p h g rounds last status rose lines turns few tail sure records ends prefix whole spent says stable shown failed quiet cause end =
       let left = left-append p g h in
       record {
         goes = goes_both disk journal laws old.disk to.disk new.disk old.list to.list new.list p h g turns.goes turns.holds tail;
@@ -94,8 +97,10 @@ module _ {D J : Type 0} (disk : a_disk.Ghosts D) (journal : a_journal.Ghosts J)
           all = λ other. Appends-trans old.held to.held new.held (lines_of_rounds rounds) lines turns.lines (whole other);
         };
         spent = spent;
+        failed = failed;
+        quiet = quiet;
         rose = rose;
-        cause = λ on. subst (λ (n : ℕ). Rose n new.faults) turns.faults (cause on);
+        cause = cause;
         end = subst (λ (q : SessionState). IsEnd q status rose) (sym left) end;
       }
 
@@ -119,7 +124,7 @@ module _ {D J : Type 0} (disk : a_disk.Ghosts D) (journal : a_journal.Ghosts J)
           s.questions.0,
           questions-append h k ∙ ap (λ (l : List Answer). l ++ questions_of h) (not_asked p k acts.proper turns) ∙ s.questions.1,
         );
-        handled = subst (λ (d : Device). AreHandled Clause d old.library s.rounds s.behind s.to.library) acts.device s.handled;
+        handled = subst (λ (d : Device). AreHandled Clause d old.library old.faults s.rounds s.behind s.to.library s.to.faults) acts.device s.handled;
         answered = s.answered;
         given = s.given;
         starts = s.starts;
@@ -129,6 +134,8 @@ module _ {D J : Type 0} (disk : a_disk.Ghosts D) (journal : a_journal.Ghosts J)
         says = s.says;
         writes = record { prefix = s.writes.prefix; all = s.writes.all };
         spent = s.spent;
+        failed = s.failed;
+        quiet = s.quiet;
         rose = s.rose;
         cause = s.cause;
         end = subst (λ (q : SessionState). IsEnd q status s.rose) (sym (left-append p h k)) s.end;
@@ -162,11 +169,12 @@ module _ {D J : Type 0} (disk : a_disk.Ghosts D) (journal : a_journal.Ghosts J)
                 closed = shuts.says.closed;
                 held = shuts.says.held;
                 library = shuts.says.library;
+                faults = shuts.says.faults;
               },
               none,
             )
             ([], [], refl, kept_held to.held mid.held shuts.says.held) (λ other. kept_held to.held mid.held shuts.says.held) (λ is. cc)
-            refl (λ untold. stands) tt (λ on. absurd (false≢true on))
+            refl (λ untold. stands) tt (λ is. absurd cc) (λ disk edge. shuts.says.faults) (λ on. absurd (false≢true on))
             (subst (λ (x : SessionState). IsEnd x statuses.Done false) (sym (left-append q k g))
             (subst (λ (x : SessionState). IsEnd (state_after x k) statuses.Done false) same end)),
       )
@@ -181,5 +189,5 @@ module _ {D J : Type 0} (disk : a_disk.Ghosts D) (journal : a_journal.Ghosts J)
     g ++ before,
     ended most old to new p before g rounds last status rose e.lines turns few e.goes e.sure e.records
         (ended_as Clause most rounds last status to new (state_after p before).device e.why) e.writes.prefix e.writes.all
-        (λ is. absurd (not_spent Clause last status to new (state_after p before).device e.why is)) e.says e.stable e.starts e.cause e.end,
+        (λ is. absurd (not_spent Clause last status to new (state_after p before).device e.why is)) e.says e.stable e.starts e.failed e.quiet e.cause e.end,
   )

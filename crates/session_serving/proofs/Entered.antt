@@ -24,6 +24,7 @@ use Rattle.session_boots.proofs.Acting.{grows_none}
 use Rattle.session_steady.specs.Serves.{IsServing}
 use Rattle.session_transitions.proofs.Rising.{none_begun}
 use Rattle.session_transitions.proofs.Shut.{changed_answered}
+use Rattle.session_serving.specs.Pauses.{IsChangeAlone}
 use Rattle.session_serving.specs.States.{IsUnopened}
 
 -- ---- where nothing is pending
@@ -72,7 +73,7 @@ module _ (first : HasFirst) (d : Device) (o : Origin) (origin : d.origin ≡ Som
 
   pub opened : ((n : ℕ) → Owns (changed_to fitted no_failures true p.world) n ↔ Owns p.world n) → IsOrderly (changed_to fitted no_failures true p.world) →
       (h : List TraceEvent) × ActTrace p h told.list told.list × IsServing (state_after p h) d (changed_to fitted no_failures true world) told living
-      × ((state_after p h).turns ≡ p.turns)
+      × ((state_after p h).turns ≡ p.turns) × IsChangeAlone h
   opened owners orderly =
       let r = u.returned in
       let s = r.stands in (
@@ -104,4 +105,5 @@ module _ (first : HasFirst) (d : Device) (o : Origin) (origin : d.origin ≡ Som
           orderly = orderly;
         },
         refl,
+        record { fitted = fitted; is = refl },
       )

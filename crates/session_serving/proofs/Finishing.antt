@@ -33,7 +33,7 @@ use Rattle.session.specs.Calls.{IsOrEdge, StandsWhole, call_lines}
 use Rattle.session.specs.Endings.{Ending, BySinkFault, ByClose, ByDecline, ByDiskFault, WantAfter, Full, Idle as NothingPending, ByReboot}
 use Rattle.session.specs.Endings.{ByRestart, ResumeEnding, WantBefore}
 use Rattle.session.specs.Endings.{PendingEnding, is_failing, status_of_ending}
-use Rattle.session.specs.Parts.{EndsPart, EndsRan, IsGeneration, IsUnbegun, Part, RanLeft, status_of_ran}
+use Rattle.session.specs.Parts.{EndsPart, EndsRan, IsAnew, IsGeneration, IsUnbegun, Part, RanLeft, status_of_ran}
 use Rattle.session.specs.declared.ran.Ran.{Ran}
 use Rattle.session.specs.declared.ran.Ran.TheVariants as ran
 use Rattle.session.specs.declared.ran.Standing.{Standing}
@@ -43,10 +43,11 @@ use Rattle.session_serving.specs.Parts.{AllStandFor, AreOfFiles, HistoryKept, Ou
 use Rattle.session_serving.specs.States.{IsBegun, IsUnopened}
 use Rattle.session_serving.specs.Documents.{RecordsEnd}
 use Rattle.session_serving.specs.Served.{FinishLeft, IsPendingResumed}
-use Rattle.session_serving.proofs.Deploying.{device_same, drained, end_beside, not_edge, own_status, over_status, records_end, turns_same}
+use Rattle.session_serving.proofs.Deploying.{device_same, drained, end_beside, turns_same}
 use Rattle.session_serving.proofs.Deploying.{unopened_beside}
 use Rattle.session_serving.proofs.Images.{part_images, whole_now}
 use Rattle.session_serving.proofs.Joining.{goes_acts, holds_acts}
+use Rattle.session_serving.proofs.Settling.{anew_disk, back_edge, no_records, own_of, own_or_edge, records_end}
 
 -- ---- where it begins
 
@@ -105,7 +106,7 @@ module _ (p : SessionState) (turns : ℕ) (d : Device) (world : Components) (tol
 may_open : (standing : Standing) (before : Generation) (q : SessionState) → before ≡ draining → IsGeneration standing before q.generation → q.serves ≡ true →
     q.opened ≡ false → MayChangeIn idle q.generation q
 may_open standings.AsBefore before q is of serves closed = drained q q (of ∙ is) serves
-may_open standings.OfSet before q is of serves closed = subst (λ (c : Generation). MayChangeIn idle c q) (sym of) (serves, closed)
+may_open standings.OfSet before q is of serves closed = subst (λ (c : Generation). MayChangeIn idle c q) (sym of) (serves, inl closed)
 may_open standings.Nobody before q is of serves closed = drained q q of serves
 
 none_of : (o : Option Answer) (a : Option Answer) → (a ≡ o) ⊎ (a ≡ None) → o ≡ None → IfSome a (λ x. is_document x ≡ true)
@@ -116,27 +117,28 @@ none_of o a (inr none) is = subst (λ (x : Option Answer). IfSome x (λ y. is_do
 
 closes_of : (p : SessionState) (ending : Ending) (h : List TraceEvent) → EndsPart p ending h → PendingEnding p.device.pending ending →
     is_some p.device.pending ≡ true →
-    gives_up (status_of_ending ending) ≡ false → is_restart (status_of_ending ending) ≡ false → (o : Outcome) × ClosesAs o (records_of h)
-closes_of p (ByClose o) h ends resumes some stays other = (o, ends.0)
-closes_of p (ByRestart i) h ends resumes some stays other = absurd (false≢true (sym other))
-closes_of p (ByReboot i) h ends resumes some stays other = absurd (false≢true (sym other))
-closes_of p ByDiskFault h ends resumes some stays other = absurd (false≢true (sym stays))
-closes_of p BySinkFault h ends resumes some stays other = absurd (false≢true (sym stays))
-closes_of p WantAfter h ends resumes some stays other = ends
-closes_of p WantBefore h ends resumes some stays other = absurd (false≢true (sym stays))
-closes_of p (ByDecline x) h ends resumes some stays other = absurd (unbegun p.device.pending some resumes)
+    status_of_ending ending ≢ statuses.Disk → status_of_ending ending ≢ statuses.Edge → is_restart (status_of_ending ending) ≡ false →
+    (records_of h ≡ [] → ⊥) → (o : Outcome) × ClosesAs o (records_of h)
+closes_of p (ByClose o) h ends resumes some disk edge other kept = (o, ends.0)
+closes_of p (ByRestart i) h ends resumes some disk edge other kept = absurd (false≢true (sym other))
+closes_of p (ByReboot i) h ends resumes some disk edge other kept = absurd (false≢true (sym other))
+closes_of p ByDiskFault h ends resumes some disk edge other kept = absurd (disk refl)
+closes_of p BySinkFault h ends resumes some disk edge other kept = absurd (edge refl)
+closes_of p WantAfter h ends resumes some disk edge other kept = ends
+closes_of p WantBefore h ends resumes some disk edge other kept = absurd (kept (no_records h ends.0))
+closes_of p (ByDecline x) h ends resumes some disk edge other kept = absurd (unbegun p.device.pending some resumes)
   where
     unbegun : (o : Option Pending) → is_some o ≡ true → PendingEnding o (ByDecline x) → ⊥
     unbegun None some resumes = false≢true some
     unbegun (Some q) some (inl begun) = begun
     unbegun (Some q) some (inr is) = cc
-closes_of p (Full at) h ends resumes some stays other = absurd (unbegun p.device.pending some resumes)
+closes_of p (Full at) h ends resumes some disk edge other kept = absurd (unbegun p.device.pending some resumes)
   where
     unbegun : (o : Option Pending) → is_some o ≡ true → PendingEnding o (Full at) → ⊥
     unbegun None some resumes = false≢true some
     unbegun (Some q) some (inl begun) = begun
     unbegun (Some q) some (inr is) = cc
-closes_of p NothingPending h ends resumes some stays other = absurd (unbegun p.device.pending some resumes)
+closes_of p NothingPending h ends resumes some disk edge other kept = absurd (unbegun p.device.pending some resumes)
   where
     unbegun : (o : Option Pending) → is_some o ≡ true → PendingEnding o NothingPending → ⊥
     unbegun None some resumes = false≢true some
@@ -175,7 +177,7 @@ module _ {D J : Type 0} (disk : a_disk.Ghosts D) (journal : a_journal.Ghosts J)
       (d : Device)
       (world : Components) (told : Told) (living : List ℕ) (b : IsBegun p turns d world told living) (some : is_some d.pending ≡ true)
       (stands : AllStandFor disk journal old.disk p.device) (library : new.library ≡ old.library)
-      (r : Ran J) (later : Components) (now : Told) (lives : List ℕ) (ends : EndsRan r)
+      (r : Ran J) (later : Components) (now : Told) (lives : List ℕ) (ends : EndsRan r) (anew : IsAnew r)
       (part : Part journal.entries journal.files disk.may_leave disk.moment disk.left_since old.disk new.disk old.list new.list old.held new.held (alone p)
       (status_of_ran r) (λ ending q. RanLeft p.generation r (is_failing ending) q later now lives))
       (alike : ServesAlike p part.history) (resumes : ResumeEnding d part.ending) (failed : part.ending ≡ ByDiskFault → Rose old.faults new.faults)
@@ -218,20 +220,24 @@ module _ {D J : Type 0} (disk : a_disk.Ghosts D) (journal : a_journal.Ghosts J)
     is_pending : p.device.pending ≢ None
     is_pending none = false≢true (sym (ap (λ (o : Option Pending). is_some o) none) ∙ own_some)
 
-    pub finish_left : (gives_up (status_of_ran r) ≡ false → new.faults ≡ old.faults) →
+    pub finish_left : (status_of_ran r ≢ statuses.Disk → status_of_ran r ≢ statuses.Edge → new.faults ≡ old.faults) →
         ((s : Idle J) → (st : Status) → (standing : Standing) → r ≡ ran.Back s st standing → AllStandFor disk journal new.disk (idle_device s)) →
         FinishLeft disk journal r old new p part.history later now lives
     unfolding resumed
-    finish_left quiet there = by r refl part.left ends there
+    finish_left quiet there = by r refl part.left ends anew there
       where
-        by : (x : Ran J) → r ≡ x → RanLeft p.generation x (is_failing part.ending) (state_after (alone p) part.history) later now lives → EndsRan x →
+        by : (x : Ran J) → r ≡ x → RanLeft p.generation x (is_failing part.ending) (state_after (alone p) part.history) later now lives → EndsRan x → IsAnew x →
             ((s : Idle J) → (st : Status) → (standing : Standing) → r ≡ ran.Back s st standing → AllStandFor disk journal new.disk (idle_device s)) →
             FinishLeft disk journal x old new p part.history later now lives
-        by (ran.Back s st standing) is left end there =
+        by (ran.Back s st standing) is left end new_ones there =
             let q = state_after (alone p) part.history in
             let status_is : status_of_ran r ≡ st = ap status_of_ran is in
-            let stays = ap gives_up status_is ∙ left.2 in
-            let own_is = own_status (status_of_ran r) (status_of_ending part.ending) part.answers stays in
+            let no_edge : status_of_ran r ≢ statuses.Edge = λ edge. back_edge s st standing left.2 left.3 (sym status_is ∙ edge) in
+            let no_disk : status_of_ran r ≢ statuses.Disk = λ fails. anew_disk st standing new_ones left.2 (sym status_is ∙ fails) in
+            let own_is = own_of (status_of_ran r) (status_of_ending part.ending) no_edge part.answers in
+            let kept : records_of part.history ≡ [] → ⊥ = λ none.
+            is_pending (ap (λ (x : Device). x.pending) (sym (subst (λ (l : List Record). Run p.device l q.device) none part.trace.run))
+            ∙ ap (λ (x : Device). x.pending) left.0.stands.device_is ∙ left.0.idle_is) in
             let stand : AllStandFor disk journal new.disk (state_after p part.history).device = subst (λ (x : Device). AllStandFor disk journal new.disk x)
             (sym (device_same p part.history alike ∙ left.0.stands.device_is)) (there s st standing is) in (
               record {
@@ -242,11 +248,11 @@ module _ {D J : Type 0} (disk : a_disk.Ghosts D) (journal : a_journal.Ghosts J)
                 lines = call_lines p.device part.prints.printed_records part.ending;
                 ending = part.ending;
                 first = inl (is_pending, resumed);
-                closed = λ some. closes_of (alone p) part.ending part.history part.ends own_resumes own_some (sym (ap gives_up own_is) ∙ stays)
-                    (sym (ap is_restart own_is) ∙ ap is_restart status_is ∙ left.3);
-                writes = part.prints.whole (not_edge (status_of_ran r) stays);
+                closed = λ some. closes_of (alone p) part.ending part.history part.ends own_resumes own_some (λ fails. no_disk (own_is ∙ fails))
+                    (λ edge. no_edge (own_is ∙ edge)) (sym (ap is_restart own_is) ∙ ap is_restart status_is ∙ left.3) kept;
+                writes = part.prints.whole no_edge;
                 turns = turns_same p part.history alike;
-                faults = quiet (ap gives_up status_is ∙ left.2);
+                faults = quiet no_disk no_edge;
               },
               subst (λ (z : SessionState). IsUnopened z (idle_device s) later now lives) (sym alike.state_is)
                   (unopened_beside p alike.answer alike.taken q (idle_device s) later now lives left.0
@@ -254,7 +260,7 @@ module _ {D J : Type 0} (disk : a_disk.Ghosts D) (journal : a_journal.Ghosts J)
                   (begun_closed p turns d world told living b))
                   (none_of p.answer alike.answer alike.answered (begun_answer p turns d world told living b))),
             )
-        by (ran.Over st) is left end there =
+        by (ran.Over st) is left end new_ones there =
             let status_is : status_of_ran r ≡ st = ap status_of_ran is in
             record {
               goes = goes;
@@ -270,9 +276,10 @@ module _ {D J : Type 0} (disk : a_disk.Ghosts D) (journal : a_journal.Ghosts J)
               first = resumed;
               stable = λ none. subst (λ (x : Device). AllStandFor disk journal new.disk x) (sym (device_same p part.history alike)) (part.prints.stable none);
               failed = failed;
+              quiet = λ disk edge. quiet (λ is. disk (sym status_is ∙ is)) (λ is. edge (sym status_is ∙ is));
               unbegun = λ is. (unbegun_of (alone p) part.history part.ending is part.ends).1 b.stage.between.still.stopped;
-              with_status = over_status st (status_of_ending part.ending) (subst (λ (z : Status). IsOrEdge z (status_of_ending part.ending)) status_is
-                  part.answers) end;
+              with_status = own_or_edge st (status_of_ending part.ending) end (subst (λ (z : Status). IsOrEdge z (status_of_ending part.ending)) status_is
+                  part.answers);
               writes = record {
                 prefix = part.prints.prefix;
                 all = λ other. part.prints.whole (λ edge. other (sym status_is ∙ edge));

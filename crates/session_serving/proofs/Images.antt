@@ -46,10 +46,10 @@ module _ {D J : Type 0} (disk : a_disk.Ghosts D) (journal : a_journal.Ghosts J)
     stands = stands_stays h.device a b spares h.stands;
   }
 
-  spared : (old new : D) (d : Device) (records : List Record) → ((c : Image) → disk.may_leave old c → StandsForPrefix journal.entries d records c) →
+  pub spared_images : (old new : D) (d : Device) (records : List Record) → ((c : Image) → disk.may_leave old c → StandsForPrefix journal.entries d records c) →
       ChangesArtifactsAlone disk.may_leave disk.moment disk.left_since old new →
       HasLeft disk.moment disk.left_since old new (StandsForPrefix journal.entries d records)
-  spared old new d records stands changes =
+  spared_images old new d records stands changes =
       weaker laws old new (IsAfter (disk.may_leave old) (IsSameBut (IsBelow artifacts))) (StandsForPrefix journal.entries d records)
       (λ c was. prefix_stays d records was.0 c was.2 (stands was.0 was.1)) changes
 
@@ -64,13 +64,13 @@ module _ {D J : Type 0} (disk : a_disk.Ghosts D) (journal : a_journal.Ghosts J)
     part_images part stands =
         let records = records_of part.history in
         let prefix = StandsForPrefix journal.entries p.device records in
-        let before : HasLeft disk.moment disk.left_since old part.from prefix = spared old part.from p.device records
+        let before : HasLeft disk.moment disk.left_since old part.from prefix = spared_images old part.from p.device records
         (λ c left. record { prefix = []; rest = records; split = refl; device = p.device; run = refl; stands = stands c left }) part.before in
         let trace : HasLeft disk.moment disk.left_since part.from part.to prefix = weaker laws part.from part.to _ prefix
         (λ c was. was.2.here) part.trace.course
         in
         let after : HasLeft disk.moment disk.left_since part.to new prefix =
-        spared part.to new p.device records (now laws part.from part.to prefix trace) part.after in
+        spared_images part.to new p.device records (now laws part.from part.to prefix trace) part.after in
         joined laws old part.to new prefix prefix prefix (joined laws old part.from part.to prefix prefix prefix before trace (λ c h. h) (λ c h. h)) after
         (λ c h. h) (λ c h. h)
 

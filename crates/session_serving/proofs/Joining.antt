@@ -213,9 +213,9 @@ module _ {D J : Type 0} (disk : a_disk.Ghosts D) (journal : a_journal.Ghosts J)
             ∙ ap (λ (l : List Record). records_of_rounds a ++ l) two.records ∙ sym (records_both a b);
         asked = questions-append g h ∙ ap (λ (l : List Answer). l ++ questions_of g) one.asked
             ∙ ap (λ (l : List Answer). questions_of_rounds a ++ l) two.asked ∙ sym (asked_both a b);
-        handled = subst (λ (q : SessionState). AreHandled Clause p.device old.library (a ++ b) q.device new.library) (sym left)
+        handled = subst (λ (q : SessionState). AreHandled Clause p.device old.library old.faults (a ++ b) q.device new.library new.faults) (sym left)
             (handled_both Clause a b p.device (state_after p h).device (state_after (state_after p h) g).device old.library mid.library new.library
-            one.handled two.handled);
+            old.faults mid.faults new.faults one.handled two.handled);
         answered = two.answered ∙ ap (λ (x : Answered). answered_by b x) one.answered ∙ sym (answered_both a b old.answered);
         given = gives_both old.waiting mid.waiting new.waiting a b one.given two.given;
         turns =
@@ -224,7 +224,6 @@ module _ {D J : Type 0} (disk : a_disk.Ghosts D) (journal : a_journal.Ghosts J)
             let x = one.turns in
             let y = two.turns in
             omega (arith, t, l, x, y);
-        faults = two.faults ∙ one.faults;
         starts = started_on old.disk mid.disk new.disk (StandsForPrefix journal.entries p.device (records_of h))
             (StandsForPrefix journal.entries (state_after p h).device (records_of g)) one.goes.images two.goes.images a b one.starts two.starts;
       }
@@ -240,11 +239,10 @@ module _ {D J : Type 0} (disk : a_disk.Ghosts D) (journal : a_journal.Ghosts J)
     lines = Appends-nil old.held;
     records = acts.none;
     asked = not_asked p h acts.proper turns;
-    handled = (acts.device, refl);
+    handled = (acts.device, refl, refl);
     answered = refl;
     given = gives_none old.waiting;
     turns = omega (arith, turns);
-    faults = refl;
     starts = tt;
   }
 

@@ -6,10 +6,13 @@ pub mod Turning
 pub mod Doing
 pub mod States
 pub mod Steady
+pub mod Pausing
 pub mod Held
 pub mod Causing
 pub mod Images
+pub mod Settling
 pub mod Deploying
+pub mod Swept
 pub mod Up
 pub mod Entered
 pub mod Finishing
@@ -18,3 +21,4 @@ pub mod Hearing
 pub mod Ending
 pub mod Closing
 pub mod Opens
+pub mod Telling

@@ -7,15 +7,16 @@ use Rattle.components.specs.Components.{Components}
 use Rattle.histories.specs.States.{SessionState}
 use Rattle.session_steady.specs.Runs.{IsSame}
 use Rattle.session_steady.specs.Serves.{IsAsking, IsServing, SettledLeft}
+use Rattle.session_steady.specs.declared.settling.Settled.{Settled}
 use Rattle.session_steady.specs.Stays.{IsKeptSteady}
 use Rattle.session_serving.specs.States.{AreUp}
 
-module _ (x q : SessionState) (d : Device) (world : Components) (told : Told) (living : List ℕ) (r : Option ℕ) where
-  pub settled_some : (now : ℕ) → r ≡ Some now → SettledLeft x r q d world told living → IsAsking q d world told living × IsSame x q × (q.answer ≡ x.answer)
-  settled_some now is left = subst (λ (o : Option ℕ). SettledLeft x o q d world told living) is left
+module _ (x q : SessionState) (d : Device) (world : Components) (told : Told) (living : List ℕ) (r : Option Settled) where
+  pub settled_some : (s : Settled) → r ≡ Some s → SettledLeft x r q d world told living → IsAsking q d world told living × IsSame x q × (q.answer ≡ x.answer)
+  settled_some s is left = subst (λ (o : Option Settled). SettledLeft x o q d world told living) is left
 
   pub settled_none : r ≡ None → SettledLeft x r q d world told living → IsServing q d world told living × IsSame x q × (q.answer ≡ x.answer)
-  settled_none is left = subst (λ (o : Option ℕ). SettledLeft x o q d world told living) is left
+  settled_none is left = subst (λ (o : Option Settled). SettledLeft x o q d world told living) is left
 
 -- the components stay up
 pub up_on : (d : Device) (w v : Components) → AreUp d w → IsKeptSteady w v → AreUp d v

@@ -34,7 +34,7 @@ use Rattle.session_shutdown.specs.Stops.{MayStop}
 use Rattle.session_steady.specs.Serves.{IsServing}
 use Rattle.session_serving.specs.Documents.{IsDone, IsLastDone}
 use Rattle.session_serving.specs.Parts.{CallEnded, HistoryKept, IsStarted, IsSure, Outside, TurnsPassed}
-use Rattle.session_serving.specs.Rounds.{SaysLast, Shut, Spent, asked_of_last}
+use Rattle.session_serving.specs.Rounds.{SaysLast, Shut, Spent, SweepFailed, asked_of_last}
 use Rattle.session_serving.specs.Rounds.{AreStarted, InboxFailed, WaitingLeft, Handled, LastRound, Round, WantOfMemory, StoppedBy, Took, Waited}
 use Rattle.session_serving.specs.Rounds.{questions_of, records_of_last}
 use Rattle.session_serving.specs.Rounds.{round_of_last}
@@ -70,8 +70,16 @@ one_asked : (last : LastRound) → asked_of_last last ≤ 1
 one_asked Spent = omega arith
 one_asked Shut = omega arith
 one_asked (StoppedBy x) = omega arith
+one_asked SweepFailed = omega arith
 one_asked InboxFailed = omega arith
 one_asked WantOfMemory = omega arith
+
+-- a fault of an edge, and want of memory, are none of the disk
+pub never_edge : statuses.Edge ≡ statuses.Disk → ⊥
+never_edge is = cc
+
+pub never_memory : statuses.Memory ≡ statuses.Disk → ⊥
+never_memory is = cc
 
 -- what is seen when the inbox has answered so
 abbrev pub answered_as : {D : Type 0} → Outside D → Option (List RunnerEntry) → Answered → Option Waiting → Outside D
@@ -92,11 +100,10 @@ module _ {D J : Type 0} (disk : a_disk.Ghosts D) (journal : a_journal.Ghosts J)
       lines = Appends-nil old.held;
       records = acts.none;
       asked = asked;
-      handled = (acts.device, refl);
+      handled = (acts.device, refl, refl);
       answered = answered;
       given = gives_waited old.waiting after same next;
       turns = turns;
-      faults = refl;
       starts = tt;
     }
 
@@ -109,7 +116,7 @@ module _ {D J : Type 0} (disk : a_disk.Ghosts D) (journal : a_journal.Ghosts J)
       stands = stands_acts disk journal laws old.disk old.list b p h stands acts;
       holds = holds_acts disk journal laws old.disk old.list b p h acts;
       none = acts.none;
-      says = record { answered = answered; waiting = same; closed = closed_next old.waiting next; held = refl; library = refl };
+      says = record { answered = answered; waiting = same; closed = closed_next old.waiting next; held = refl; library = refl; faults = refl };
     }
 
     -- the records of its document lead from the device to that behind them
@@ -143,11 +150,11 @@ module _ {D J : Type 0} (disk : a_disk.Ghosts D) (journal : a_journal.Ghosts J)
           handled = (
             o.device ∙ acts.device,
             o.before,
-            i.stays.0,
-            i.stays.1,
+            o.disk_before,
+            i.stays,
             o.clause,
             run_of h g x acts o.records o.behind i.goes.run,
-            (ap (λ (q : SessionState). q.device) left ∙ sym o.behind, sym o.after),
+            (ap (λ (q : SessionState). q.device) left ∙ sym o.behind, sym o.after, sym o.disk_after),
           );
           answered = done.answered ∙ ap (λ (z : Answered). after_done z) answered;
           given = gives_took x bytes old.waiting between new.waiting same next is done.given;
@@ -155,7 +162,6 @@ module _ {D J : Type 0} (disk : a_disk.Ghosts D) (journal : a_journal.Ghosts J)
               let l : (state_after p (g ++ h)).turns ≡ (state_after (state_after p h) g).turns = ap (λ (q : SessionState). q.turns) left in
               let t = i.turns in
               omega (arith, l, t, turns);
-          faults = i.faults;
           starts = (o.starts, tt);
         }
 
@@ -189,22 +195,25 @@ module _ {D J : Type 0} (disk : a_disk.Ghosts D) (journal : a_journal.Ghosts J)
             run = run_of h g x acts o.records o.behind i.goes.run;
             clause = o.clause;
             with_status = i.with_status;
+            memory = i.memory;
             answered = subst (λ (z : Answered). new.answered ≡ (if is_restart status then after_done z else z)) answered last.answered;
             given = subst (λ (z : Option Waiting). new.waiting ≡ (if is_restart status then option_map without_first z else z)) same last.given;
           };
           starts = (o.starts, tt);
+          failed = i.failed;
+          quiet = i.quiet;
           cause = i.cause;
           end = subst (λ (q : SessionState). IsEnd q status rose) (sym left) i.end;
         }
 
     -- it gave no answer, or the call gives up at the clock's end
     pub given_up : (last : LastRound) (status : Status) (lines : List ℕ) (new : Outside D) (h : List TraceEvent) → new.disk ≡ old.disk →
-        ActTrace p h old.list new.list → records_of_last last ≡ [] → round_of_last last ≡ [] → SaysLast last status lines →
+        new.faults ≡ old.faults → (status ≡ statuses.Disk → ⊥) → ActTrace p h old.list new.list → records_of_last last ≡ [] → round_of_last last ≡ [] → SaysLast last status lines →
         EndsBy Clause last status old new p.device →
         AppendsPrefix old.held new.held lines →
         (status ≢ statuses.Edge → Appends old.held new.held lines) → IsEnd (state_after p h) status false →
         CallEnded disk journal (EndsBy Clause) old new p h last status false
-    given_up last status lines new h same acts none no_round says why prefix whole end = record {
+    given_up last status lines new h same still other acts none no_round says why prefix whole end = record {
       goes = subst (λ (d : D). HistoryKept disk journal old.disk d old.list new.list p h) (sym same)
           (goes_acts disk journal laws old.disk old.list new.list p h stands acts);
       sure = subst (λ (d : D). IsSure disk journal d p h) (sym same)
@@ -217,6 +226,8 @@ module _ {D J : Type 0} (disk : a_disk.Ghosts D) (journal : a_journal.Ghosts J)
       records = acts.none ∙ sym none;
       why = why;
       starts = subst (λ (l : List Round). AreStarted (IsStarted disk journal old.disk new.disk) l) (sym no_round) tt;
+      failed = λ is. absurd (other is);
+      quiet = λ disk edge. still;
       cause = λ on. absurd (false≢true on);
       end = end;
     }
@@ -282,6 +293,7 @@ module _ {D J : Type 0} (disk : a_disk.Ghosts D) (journal : a_journal.Ghosts J)
               closed = i.says.closed;
               held = i.says.held;
               library = i.says.library;
+              faults = i.says.faults;
             };
           },
           subst (λ (q : SessionState). MayStop q (idle_device s) world told living) (sym (left-append p h k)) l.1,
@@ -301,13 +313,14 @@ module _ {D J : Type 0} (disk : a_disk.Ghosts D) (journal : a_journal.Ghosts J)
     )
 
     -- since the inbox gave no answer
-    pub fault_over : (fault : InboxFault) (status : Status) (new : Outside D) (h : List TraceEvent) → new.disk ≡ old.disk → ActTrace p h old.list new.list →
+    pub fault_over : (fault : InboxFault) (status : Status) (new : Outside D) (h : List TraceEvent) → new.disk ≡ old.disk → new.faults ≡ old.faults →
+        ActTrace p h old.list new.list →
         AsksNone old new → GivesUpBy fault status → AppendsPrefix old.held new.held (line_of_fault fault) →
         (status ≢ statuses.Edge → Appends old.held new.held (line_of_fault fault)) → IsEnd (state_after p h) status false →
         OverLeft disk journal Clause 1 status old new p h
-    fault_over faults.Failed status new h same acts none why prefix whole end =
+    fault_over faults.Failed status new h same still acts none why prefix whole end =
         over_at InboxFailed status false new h
-        (given_up InboxFailed status (line_of_fault faults.Failed) new h same acts refl refl refl (why, none) prefix whole end)
-    fault_over faults.NoMemory status new h same acts none why prefix whole end =
+        (given_up InboxFailed status (line_of_fault faults.Failed) new h same still (λ is. never_edge (sym why ∙ is)) acts refl refl refl (why, none) prefix whole end)
+    fault_over faults.NoMemory status new h same still acts none why prefix whole end =
         over_at WantOfMemory status false new h
-        (given_up WantOfMemory status (line_of_fault faults.NoMemory) new h same acts refl refl refl (why, none) prefix whole end)
+        (given_up WantOfMemory status (line_of_fault faults.NoMemory) new h same still (λ is. never_memory (sym why ∙ is)) acts refl refl refl (why, none) prefix whole end)

@@ -24,11 +24,11 @@ module _ {D K L I : Type 0} (disk : a_disk.Ghosts D) (sink : a_sink.Ghosts K) (l
       record { image = disk.seen d; disk = disk.faults d; sink = sink.faults k; library = library.faults l; inbox = inbox.faults i }
 
 -- The disk's status comes only where the disk's count rose, and the edge's only where that of the sink or of the inbox did. With
--- another status no count but the library's changes. None falls. Every file but the journal's and those of artifacts is as before.
+-- another status than the edge's these two do not change. No count falls. Every file but the journal's and those of artifacts is as
+-- before. In which rounds the disk's count rose the rounds say.
 pub record IsCaused (is_modelled : Bool) (files : List ℕ → Type 0) (status : Status) (old new : Observation) : Type 0 where
   pub disk : status ≡ statuses.Disk → Rose old.disk new.disk
   pub edge : status ≡ statuses.Edge → Rose old.sink new.sink ⊎ Rose old.inbox new.inbox
-  pub quiet_disk : status ≢ statuses.Disk → status ≢ statuses.Edge → new.disk ≡ old.disk
   pub quiet_edges : status ≢ statuses.Edge → (new.sink ≡ old.sink) × (new.inbox ≡ old.inbox)
   pub later : HasNotFallen old.disk new.disk × HasNotFallen old.sink new.sink × HasNotFallen old.inbox new.inbox
   pub library_later : old.library ≤ new.library

@@ -1,6 +1,6 @@
 -- One document in a call that goes on behind it, or ends with it.
-use Rattle.std.specs.Prelude.{◌≡◌, ◌≢◌, ◌⊎◌, ◌≤◌, ℕ, Bool, true, false, List, [], ◌++◌, length, Option, Some, None, Result, ⊤}
-use Rattle.std.specs.Prelude.{option_map, if◌then◌else◌}
+use Rattle.std.specs.Prelude.{◌≡◌, ◌≢◌, ◌⊎◌, ◌≤◌, ℕ, Bool, true, false, List, [], ◌++◌, length, Some, None, Result, ⊤}
+use Rattle.std.specs.Prelude.{codes, option_map, if◌then◌else◌}
 use Rattle.std.specs.Io.KnownBytes.{Appends}
 use Rattle.nuc_base.specs.Faults.{Rose}
 use Rattle.nuc_base.specs.declared.kinds.Outcome.{Outcome}
@@ -10,14 +10,14 @@ use Rattle.disk_model.specs.declared.disk.Disk as a_disk
 use Rattle.gate_log.specs.declared.journal.Journal as a_journal
 use Rattle.edges.specs.Inboxes.{after_done}
 use Rattle.edges.specs.Waiting.{without_first}
-use Rattle.library_core.specs.Library.{Content}
+use Rattle.library_core.specs.Library.{Content, Extends}
 use Rattle.records.specs.Stored.{Record}
 use Rattle.device.specs.Devices.{Device, IsRegularDevice}
 use Rattle.records.specs.declared.record.Origin.{Origin}
 use Rattle.records.specs.declared.record.Plan as code
 use Rattle.admission.specs.Takes.{HasDiskFailed, HasLibraryFailed}
 use Rattle.admission.specs.declared.fault.Declined.{Declined}
-use Rattle.histories.specs.Courses.{IsEnd, gives_up, is_restart}
+use Rattle.histories.specs.Courses.{IsEnd, is_restart}
 use Rattle.histories.specs.States.{SessionState, state_after}
 use Rattle.histories.specs.TraceEvents.{TraceEvent, records_of}
 use Rattle.session_boots.specs.Booted.{AsksFor}
@@ -29,8 +29,32 @@ use Rattle.session.specs.Documents.{TakenEnding, TakesRead}
 use Rattle.session.specs.Endings.{Ending, BySinkFault, ByClose, ByDecline, ByDiskFault, WantAfter, Full, Idle, ByReboot, ByRestart, WantBefore}
 use Rattle.session.specs.Endings.{line_of_ending, status_of_ending}
 use Rattle.session.specs.Parts.{EndsCall}
+use Rattle.session.specs.declared.ran.Standing.{Standing}
+use Rattle.session.specs.declared.ran.Standing.TheVariants as standings
 use Rattle.session_serving.specs.Parts.{AllStandFor, HistoryKept, HoldsOn, IsStarted, IsSure, Outside, LinesWritten}
-use Rattle.session_serving.specs.Rounds.{Handled, SaysStopped}
+use Rattle.session_serving.specs.Rounds.{GoesOn, Handled, SaysStopped}
+
+-- ---- what is said of it
+
+-- that there was no memory, which a call that serves alone says
+abbrev pub memory_line : List ℕ
+memory_line = codes "fault 15 memory\n"
+
+abbrev pub want_line : Status → List ℕ
+want_line statuses.Memory = memory_line
+want_line status = []
+
+-- the line of its ending, and that there was no memory, where it ended so
+abbrev pub served_line : Ending → List ℕ
+served_line ending = line_of_ending ending ++ want_line (status_of_ending ending)
+
+-- there was no memory for it: it comes back so, and nothing was deployed
+abbrev pub found_no_memory : Status → Standing → Bool
+found_no_memory statuses.Memory standings.AsBefore = true
+found_no_memory status standing = false
+
+abbrev pub no_memory_line : Status → Standing → List ℕ
+no_memory_line status standing = if found_no_memory status standing then memory_line else []
 
 -- ---- what is promised of one document
 
@@ -48,14 +72,17 @@ RecordsEnd (ByDecline x) records d = records ≡ []
 RecordsEnd (Full at) records d = records ≡ []
 RecordsEnd Idle records d = records ≡ []
 
--- The document is taken in on the device of its turn or not, by the checks in their order, and what follows is one deployment, as
--- in a call of its own. Its lines are those of its records, where the disk failed perhaps without the last one's, and that of its
--- ending, which gives its status. The device's configurations are regular, as plans ask. It is refused for the library only where the
+-- The document is taken in on the device of its turn or not, by the checks in their order and by what the library tells then, which
+-- is what it told before and perhaps its recipes; and what follows is one deployment, as in a call of its own. Its lines are those of
+-- its records, where the disk failed perhaps without the last one's, and that of its ending, which gives its status; want of memory is
+-- said too. The device's configurations are regular, as plans ask. It is refused for the library only where the
 -- library's count rose, and for the disk, or given up since that failed, only where the disk's did.
-pub record IsDeployedThere (content : Option Content) (x : Handled) : Type 0 where
+pub record IsDeployedThere (content : Content) (x : Handled) : Type 0 where
   pub regular : IsRegularDevice x.device
   pub taken : Result code.Plan Declined
-  pub takes : (o : Origin) → x.device.origin ≡ Some o → TakesRead x.device o content x.before x.after x.bytes taken
+  pub told : Content
+  pub extends : Extends content told
+  pub takes : (o : Origin) → x.device.origin ≡ Some o → TakesRead x.device o told x.before x.after x.bytes taken
   pub library_cause : HasLibraryFailed taken → Rose x.before x.after
   pub library_later : x.before ≤ x.after
   pub ending : Ending
@@ -67,7 +94,7 @@ pub record IsDeployedThere (content : Option Content) (x : Handled) : Type 0 whe
   pub split : x.records ≡ x.printed_records ++ x.unprinted_records
   pub few : length x.unprinted_records ≤ 1
   pub all : ending ≢ ByDiskFault → x.unprinted_records ≡ []
-  pub lines : x.lines ≡ lines_of x.device x.printed_records ++ line_of_ending ending
+  pub lines : x.lines ≡ lines_of x.device x.printed_records ++ served_line ending
 
 -- with its own status, by which the call ends, or a line could not be written
 abbrev pub IsOwnOrEdge : Status → Status → Type 0
@@ -88,16 +115,15 @@ module _ {D J : Type 0} (disk : a_disk.Ghosts D) (journal : a_journal.Ghosts J) 
     pub clause : Clause x
     pub starts : IsStarted disk journal old.disk new.disk x
 
-  -- It was handled, and the call goes on: `old` and `new` agree on the inbox.
+  -- It was handled, and the call goes on: `old` and `new` agree on the inbox. The disk's count changed only where its line says so.
   pub record IsHandled (old new : Outside D) (p : SessionState) (h : List TraceEvent) (x : Handled) : Type 0 where
     pub goes : HistoryKept disk journal old.disk new.disk old.list new.list p h
     pub stands : AllStandFor disk journal new.disk (state_after p h).device
     pub holds : HoldsOn disk journal old.disk new.disk p h
     pub lines : Appends old.held new.held x.lines
     pub is_of : IsOf old new p h x
-    pub stays : (gives_up x.status ≡ false) × (is_restart x.status ≡ false)
+    pub stays : GoesOn x
     pub turns : (state_after p h).turns ≡ p.turns
-    pub faults : new.faults ≡ old.faults
 
   -- it was, and is done
   pub record IsDone (old new : Outside D) (p : SessionState) (h : List TraceEvent) (x : Handled) : Type 0 where
@@ -105,7 +131,7 @@ module _ {D J : Type 0} (disk : a_disk.Ghosts D) (journal : a_journal.Ghosts J) 
     pub answered : new.answered ≡ after_done old.answered
     pub given : new.waiting ≡ option_map without_first old.waiting
 
-  -- its handling ends the call
+  -- Its handling ends the call. Want of memory alone does not.
   pub record IsEnded (old new : Outside D) (p : SessionState) (h : List TraceEvent) (x : Handled) (status : Status) (rose : Bool) : Type 0 where
     pub goes : HistoryKept disk journal old.disk new.disk old.list new.list p h
     pub sure : IsSure disk journal new.disk p h
@@ -115,6 +141,9 @@ module _ {D J : Type 0} (disk : a_disk.Ghosts D) (journal : a_journal.Ghosts J) 
     pub writes : LinesWritten disk journal old.held new.held status lines
     pub is_of : IsOf old new p h x
     pub with_status : IsOwnOrEdge x.status status
+    pub memory : status ≢ statuses.Memory
+    pub failed : status ≡ statuses.Disk → Rose old.faults new.faults
+    pub quiet : status ≢ statuses.Disk → status ≢ statuses.Edge → new.faults ≡ old.faults
     pub cause : rose ≡ true → Rose old.faults new.faults
     pub end : IsEnd (state_after p h) status rose
 

@@ -1,5 +1,6 @@
 pub mod Rounds
 pub mod Parts
+pub mod Pauses
 pub mod Causes
 pub mod Documents
 pub mod States

@@ -101,7 +101,7 @@ module _ {D J : Type 0} (disk : a_disk.Ghosts D) (journal : a_journal.Ghosts J) 
   abbrev pub IsStarted : D → D → Handled → Type 0
   IsStarted old new x = IsStartShown old new x.device x.start × HasEntryThere old new x
 
-  -- So many turns went by: one round each. All their lines are written, and the disk did not fail.
+  -- So many turns went by: one round each. All their lines are written, and the disk failed only in rounds whose line says that.
   pub record TurnsPassed (Clause : Handled → Type 0) (old new : Outside D) (p : SessionState) (h : List TraceEvent) (rounds : List Round) : Type 0 where
     pub goes : HistoryKept old.disk new.disk old.list new.list p h
     pub stands : AllStandFor new.disk (state_after p h).device
@@ -109,11 +109,10 @@ module _ {D J : Type 0} (disk : a_disk.Ghosts D) (journal : a_journal.Ghosts J) 
     pub lines : Appends old.held new.held (lines_of_rounds rounds)
     pub records : records_of h ≡ records_of_rounds rounds
     pub asked : questions_of h ≡ questions_of_rounds rounds
-    pub handled : AreHandled Clause p.device old.library rounds (state_after p h).device new.library
+    pub handled : AreHandled Clause p.device old.library old.faults rounds (state_after p h).device new.library new.faults
     pub answered : new.answered ≡ answered_by rounds old.answered
     pub given : WaitingLeft old.waiting new.waiting rounds
     pub turns : (state_after p h).turns + length rounds ≡ p.turns
-    pub faults : new.faults ≡ old.faults
     pub starts : AreStarted (IsStarted old.disk new.disk) rounds
 
   -- What may be known of the disk at the end: at most the last record is in doubt, and then nothing was done behind it but that
@@ -128,7 +127,8 @@ module _ {D J : Type 0} (disk : a_disk.Ghosts D) (journal : a_journal.Ghosts J) 
     pub all : status ≢ statuses.Edge → Appends old new lines
 
   -- A turn with which the call ends, as a session ends that answers this status: no child lives. Where the line of none of its records
-  -- is missing the disk holds them all. It ends as one whose disk failed only where the disk's count rose.
+  -- is missing the disk holds them all. It ends as one whose disk failed, and with the disk's status, only where the disk's count rose in
+  -- it, and with another status than that and the edge's the count is as before.
   pub record CallEnded (Why : LastRound → Status → Outside D → Outside D → Device → Type 0) (old new : Outside D) (p : SessionState) (h : List TraceEvent)
       (last : LastRound) (status : Status) (rose : Bool) : Type 0 where
     pub goes : HistoryKept old.disk new.disk old.list new.list p h
@@ -140,5 +140,7 @@ module _ {D J : Type 0} (disk : a_disk.Ghosts D) (journal : a_journal.Ghosts J) 
     pub records : records_of h ≡ records_of_last last
     pub why : Why last status old new p.device
     pub starts : AreStarted (IsStarted old.disk new.disk) (round_of_last last)
+    pub failed : status ≡ statuses.Disk → Rose old.faults new.faults
+    pub quiet : status ≢ statuses.Disk → status ≢ statuses.Edge → new.faults ≡ old.faults
     pub cause : rose ≡ true → Rose old.faults new.faults
     pub end : IsEnd (state_after p h) status rose

@@ -1,5 +1,6 @@
 -- What came of each question to the inbox in a call that serves.
-use Rattle.std.specs.Prelude.{◌≡◌, ◌⊎◌, ℕ, false, List, [], ◌∷◌, ◌++◌, Option, Some, None, ⊤, codes}
+use Rattle.std.specs.Prelude.{◌≡◌, ◌≢◌, ◌⊎◌, ℕ, true, false, List, [], ◌∷◌, ◌++◌, Option, Some, None, ⊤, codes}
+use Rattle.nuc_base.specs.Faults.{Rose}
 use Rattle.nuc_base.specs.declared.status.Status.{Status}
 use Rattle.nuc_base.specs.declared.status.Status.TheVariants as statuses
 use Rattle.edges.specs.declared.answered.Answered.{Answered}
@@ -10,6 +11,7 @@ use Rattle.edges.specs.Waiting.{Waiting, next_of, without_first}
 use Rattle.device.specs.Devices.{Device}
 use Rattle.device.specs.Lawful.{Run}
 use Rattle.records.specs.Stored.{Record}
+use Rattle.session.specs.Declines.{disk_line}
 use Rattle.histories.specs.Courses.{gives_up, is_restart}
 use Rattle.histories.specs.TraceEvents.{Answer, TraceEvent, Ran, Booted, WaitElapsed, KilledOnAbort, Recorded, Moved, ReadClock, Heard, InboxAsked}
 use Rattle.histories.specs.TraceEvents.{Changed, StopsAll}
@@ -36,6 +38,15 @@ pub record Handled : Type 0 where
   pub start : ℕ → ℕ
 
 -- ---- the rounds behind which the call goes on
+
+-- The call goes on behind it. Its line says that the disk failed only where the disk's count rose since the inbox gave it, and with another
+-- line that count is as it was. Where it says a fault, of the disk or want of memory, nothing was recorded.
+pub record GoesOn (x : Handled) : Type 0 where
+  pub edge : x.status ≢ statuses.Edge
+  pub restart : is_restart x.status ≡ false
+  pub disk : x.status ≡ statuses.Disk → Rose x.disk_before x.disk_after
+  pub quiet : x.status ≢ statuses.Disk → x.disk_after ≡ x.disk_before
+  pub unmoved : gives_up x.status ≡ true → x.records ≡ []
 
 pub data Round : Type 0 where
   Waited : Round  -- the inbox had nothing, and the turn waited once
@@ -96,13 +107,13 @@ WaitingLeft (Some w) new rounds = AreGiven w rounds × (new ≡ Some (waiting_be
 -- ---- each document by what is promised of one, for the device of its turn
 
 module _ (Clause : Handled → Type 0) where
-  -- from this device and this count of the library on, one document after another, to this device and this count
-  abbrev pub AreHandled : Device → ℕ → List Round → Device → ℕ → Type 0
-  AreHandled d n [] e m = (e ≡ d) × (m ≡ n)
-  AreHandled d n (Waited ∷ rounds) e m = AreHandled d n rounds e m
-  AreHandled d n (Took x ∷ rounds) e m =
-      (x.device ≡ d) × (x.before ≡ n) × (gives_up x.status ≡ false) × (is_restart x.status ≡ false) × Clause x × Run d x.records x.behind
-      × AreHandled x.behind x.after rounds e m
+  -- from this device and these counts of the library and of the disk on, one document after another, to this device and these counts
+  abbrev pub AreHandled : Device → ℕ → ℕ → List Round → Device → ℕ → ℕ → Type 0
+  AreHandled d n f [] e m g = (e ≡ d) × (m ≡ n) × (g ≡ f)
+  AreHandled d n f (Waited ∷ rounds) e m g = AreHandled d n f rounds e m g
+  AreHandled d n f (Took x ∷ rounds) e m g =
+      (x.device ≡ d) × (x.before ≡ n) × (x.disk_before ≡ f) × GoesOn x × Clause x × Run d x.records x.behind
+      × AreHandled x.behind x.after x.disk_after rounds e m g
 
 -- each document began so
 abbrev pub AreStarted : (Handled → Type 0) → List Round → Type 0
@@ -116,6 +127,7 @@ pub data LastRound : Type 0 where
   Spent : LastRound  -- the inbox was asked as often as it is to be
   Shut : LastRound  -- it is closed
   StoppedBy : (handled : Handled) → LastRound  -- the handling of a document ends the call, or the document could not be done
+  SweepFailed : LastRound  -- the disk failed while stray files were swept that an earlier document or close had left
   InboxFailed : LastRound  -- it could not be asked
   WantOfMemory : LastRound  -- there is no memory for an answer or to bring the set up, or the clock stands at its end
 
@@ -123,6 +135,7 @@ abbrev pub records_of_last : LastRound → List Record
 records_of_last Spent = []
 records_of_last Shut = []
 records_of_last (StoppedBy x) = x.records
+records_of_last SweepFailed = []
 records_of_last InboxFailed = []
 records_of_last WantOfMemory = []
 
@@ -131,6 +144,7 @@ abbrev pub round_of_last : LastRound → List Round
 round_of_last (StoppedBy x) = Took x ∷ []
 round_of_last Spent = []
 round_of_last Shut = []
+round_of_last SweepFailed = []
 round_of_last InboxFailed = []
 round_of_last WantOfMemory = []
 
@@ -139,6 +153,7 @@ abbrev pub asked_of_last : LastRound → ℕ
 asked_of_last Spent = 0
 asked_of_last Shut = 1
 asked_of_last (StoppedBy x) = 1
+asked_of_last SweepFailed = 0
 asked_of_last InboxFailed = 0
 asked_of_last WantOfMemory = 0
 
@@ -154,6 +169,7 @@ abbrev pub SaysLast : LastRound → Status → List ℕ → Type 0
 SaysLast Spent status lines = ⊤
 SaysLast Shut status lines = lines ≡ []
 SaysLast (StoppedBy x) status lines = SaysStopped x status lines
+SaysLast SweepFailed status lines = lines ≡ disk_line
 SaysLast InboxFailed status lines = lines ≡ inbox_fault_line
 SaysLast WantOfMemory status lines = lines ≡ []
 
@@ -161,5 +177,6 @@ abbrev pub unprinted_of_last : LastRound → List Record
 unprinted_of_last (StoppedBy x) = x.unprinted_records
 unprinted_of_last Spent = []
 unprinted_of_last Shut = []
+unprinted_of_last SweepFailed = []
 unprinted_of_last InboxFailed = []
 unprinted_of_last WantOfMemory = []

@@ -43,7 +43,8 @@ EndsAs Clause most rounds last status old new d = EndsBy Clause last status old 
 
 module _ {D J : Type 0} (disk : a_disk.Ghosts D) (journal : a_journal.Ghosts J) (Clause : Handled → Type 0) where
   -- From a state on, in which the set is to be brought up, to the end of the call. `to` is what is seen outside behind the last round
-  -- that went by, and `behind` the device then.
+  -- that went by, and `behind` the device then. Behind that the disk's count rose where the call ends with the disk's status, or as one
+  -- whose disk failed; and with another status than that and the edge's it did not change.
   pub record IsSetServed (most : ℕ) (old new : Outside D) (p : SessionState) (h : List TraceEvent) (status : Status) : Type 0 where
     pub goes : HistoryKept disk journal old.disk new.disk old.list new.list p h
     pub sure : IsSure disk journal new.disk p h
@@ -54,7 +55,7 @@ module _ {D J : Type 0} (disk : a_disk.Ghosts D) (journal : a_journal.Ghosts J) 
     pub behind : Device
     pub asked : length rounds + asked_of_last last ≤ most
     pub questions : (more : List Answer) × (questions_of h ≡ questions_of_rounds rounds ++ more)
-    pub handled : AreHandled Clause p.device old.library rounds behind to.library
+    pub handled : AreHandled Clause p.device old.library old.faults rounds behind to.library to.faults
     pub answered : to.answered ≡ answered_by rounds old.answered
     pub given : WaitingLeft old.waiting to.waiting rounds
     pub starts : AreStarted (IsStarted disk journal old.disk new.disk) (rounds ++ round_of_last last)
@@ -64,8 +65,10 @@ module _ {D J : Type 0} (disk : a_disk.Ghosts D) (journal : a_journal.Ghosts J) 
     pub says : SaysLast last status lines
     pub writes : LinesWritten disk journal old.held new.held status (lines_of_rounds rounds ++ lines)
     pub spent : last ≡ Spent → lines ≡ ended_line most
+    pub failed : status ≡ statuses.Disk → Rose to.faults new.faults
+    pub quiet : status ≢ statuses.Disk → status ≢ statuses.Edge → new.faults ≡ to.faults
     pub rose : Bool
-    pub cause : rose ≡ true → Rose old.faults new.faults
+    pub cause : rose ≡ true → Rose to.faults new.faults
     pub end : IsEnd (state_after p h) status rose
 
 -- the records are none, or the last of them is that a deployment closed
@@ -106,8 +109,8 @@ module _ {D J : Type 0} (disk : a_disk.Ghosts D) (journal : a_journal.Ghosts J) 
     pub turns : (state_after p h).turns ≡ p.turns
     pub faults : new.faults ≡ old.faults
 
-  -- Or it ends the call. For want of memory nothing of it is begun; and it ends for the disk only where the disk's count rose. Where the call gives
-  -- up nothing is done behind the last record but that its children are killed.
+  -- Or it ends the call. For want of memory nothing of it is begun; and it ends for the disk only where the disk's count rose, which is as before
+  -- with another status than the disk's and the edge's. Where the call gives up nothing is done behind the last record but that its children are killed.
   pub record IsHalted (old new : Outside D) (p : SessionState) (h : List TraceEvent) (status : Status) : Type 0 where
     pub goes : HistoryKept disk journal old.disk new.disk old.list new.list p h
     pub sure : IsSure disk journal new.disk p h
@@ -116,6 +119,7 @@ module _ {D J : Type 0} (disk : a_disk.Ghosts D) (journal : a_journal.Ghosts J) 
     pub first : IsPendingResumed p.device (records_of h) (state_after p h).device lines ending
     pub stable : first.rest ≡ [] → AllStandFor disk journal new.disk (state_after p h).device
     pub failed : ending ≡ ByDiskFault → Rose old.faults new.faults
+    pub quiet : status ≢ statuses.Disk → status ≢ statuses.Edge → new.faults ≡ old.faults
     pub unbegun : ending ≡ WantBefore → h ≡ []
     pub with_status : IsOwnOrEdge (status_of_ending ending) status
     pub writes : LinesWritten disk journal old.held new.held status lines

@@ -1,5 +1,5 @@
 -- What the turns of a call that serves leave, and what each part of a turn does.
-use Rattle.std.specs.Prelude.{◌≡◌, ◌≤◌, ◌⊎◌, ℕ, ◌+◌, Bool, false, List, [], ◌∷◌, ◌++◌, length, IfSome, ⊤}
+use Rattle.std.specs.Prelude.{◌≡◌, ◌≢◌, ◌≤◌, ◌⊎◌, ℕ, ◌+◌, Bool, false, List, [], ◌∷◌, ◌++◌, length, IfSome, ⊤}
 use Rattle.std.specs.Prelude.{option_map, if◌then◌else◌}
 use Rattle.nuc_base.specs.declared.status.Status.{Status}
 use Rattle.nuc_base.specs.declared.status.Status.TheVariants as statuses
@@ -17,11 +17,12 @@ use Rattle.device.specs.Lawful.{Run}
 use Rattle.deploy_state.specs.States.{OwnsIdle, idle_device}
 use Rattle.step_runner.specs.Entries.{Told}
 use Rattle.components.specs.Components.{Components}
-use Rattle.histories.specs.Courses.{IsEnd, gives_up, is_restart}
+use Rattle.histories.specs.Courses.{IsEnd, is_restart}
 use Rattle.histories.specs.States.{SessionState, state_after}
 use Rattle.histories.specs.TraceEvents.{TraceEvent, records_of}
 use Rattle.session_shutdown.specs.Stops.{MayStop}
 use Rattle.session_steady.specs.Serves.{IsServing}
+use Rattle.session.specs.Calls.{IsOrEdge}
 use Rattle.session.specs.Parts.{IsReturned}
 use Rattle.session.specs.declared.ran.Ran.{Ran}
 use Rattle.session.specs.declared.ran.Ran.TheVariants as ran
@@ -32,7 +33,8 @@ use Rattle.session_serving.specs.declared.turned.Turned.TheVariants as turned
 use Rattle.session_serving.specs.Documents.{IsOwnOrEdge, IsDone, IsEnded, IsHandled, IsLastDone}
 use Rattle.session_serving.specs.Parts.{AllStandFor, CallEnded, HistoryKept, HoldsOn, Outside, TurnsPassed}
 use Rattle.session_serving.specs.States.{AreUp, IsUnopened}
-use Rattle.session_serving.specs.Rounds.{Handled, LastRound, Round, Spent, Shut, StoppedBy, InboxFailed, WantOfMemory, asked_of_last, inbox_fault_line}
+use Rattle.session_serving.specs.Rounds.{Handled, LastRound, Round, Spent, Shut, StoppedBy, SweepFailed, InboxFailed, WantOfMemory, asked_of_last}
+use Rattle.session_serving.specs.Rounds.{inbox_fault_line}
 
 -- ---- lines
 
@@ -53,6 +55,7 @@ pub record StopsBy (Clause : Handled → Type 0) {D : Type 0} (x : Handled) (sta
   pub run : Run d x.records x.behind
   pub clause : Clause x
   pub with_status : IsOwnOrEdge x.status status
+  pub memory : status ≢ statuses.Memory
   pub answered : new.answered ≡ (if is_restart status then after_done (after_answer Document old.answered) else after_answer Document old.answered)
   pub given : new.waiting ≡ (if is_restart status then option_map without_first old.waiting else old.waiting)
 
@@ -66,6 +69,7 @@ abbrev pub EndsBy : (Handled → Type 0) → {D : Type 0} → LastRound → Stat
 EndsBy Clause Spent status old new d = ⊥
 EndsBy Clause Shut status old new d = ⊥
 EndsBy Clause (StoppedBy x) status old new d = StopsBy Clause x status old new d
+EndsBy Clause SweepFailed status old new d = IsOrEdge status statuses.Disk × AsksNone old new
 EndsBy Clause InboxFailed status old new d = (status ≡ statuses.Edge) × AsksNone old new
 EndsBy Clause WantOfMemory status old new d = (status ≡ statuses.Memory) × AsksNone old new
 
@@ -76,6 +80,7 @@ pub record SaysClosed {D : Type 0} (old new : Outside D) : Type 0 where
   pub closed : IfSome old.waiting (λ w. next_of w.documents w.closed ≡ IsClosed)
   pub held : new.held ≡ old.held
   pub library : new.library ≡ old.library
+  pub faults : new.faults ≡ old.faults
 
 -- the status and the line of a call that gives up since the inbox gave no answer
 abbrev pub GivesUpBy : InboxFault → Status → Type 0
@@ -179,7 +184,7 @@ status_of_turned (turned.Over status) = status
 
 -- a part that comes back does so with a status by which the call goes on
 abbrev pub StaysRan : {J : Type 0} → Ran J → Type 0
-StaysRan (ran.Back s status standing) = (gives_up status ≡ false) × (is_restart status ≡ false)
+StaysRan (ran.Back s status standing) = (status ≢ statuses.Edge) × (is_restart status ≡ false)
 StaysRan (ran.Over status) = ⊤
 
 abbrev pub HasEnded : {J : Type 0} → Turned J → Type 0

@@ -12,11 +12,12 @@ ghost use Rattle.session_serving.specs.Documents.{IsDeployedThere};
 ghost use Rattle.session_serving.specs.Parts.{AreOfFiles, outside};
 ghost use Rattle.session_serving.specs.States.{AreUp, IsBegun, IsUnopened};
 ghost use Rattle.session_serving.specs.Served.{IsSetServed, IsWholeCall};
+ghost use Rattle.library_core.specs.Library.{StaysTold};
 
 use crate::ends::{give_up, say_ended, stop_all, stop_spent};
 use crate::opening::open_set;
 use crate::pending::finish_pending;
-use crate::turned::Turned;
+use crate::turned::{Owed, Turned};
 use crate::turns::take_turns;
 use components::Supervise;
 use deploy_state::{Idle, Loaded};
@@ -33,6 +34,7 @@ use step_runner::Runner;
 fn serve_turns<D: Disk, J: Journal + Drop, L: Library, I: Inbox, K: Sink, R: Runner, S: Supervise>(
     alloc: Global,
     idle: Idle<J>,
+    owed: Owed,
     turns: u32,
     disk: &mut D,
     library: &mut L,
@@ -54,13 +56,13 @@ where
         (outside D.Disk K.Sink R.Runner L.Library I.Inbox disk.new sink.new runner.new library.new inbox.new)
         p h result }
     ensures none { R.living runner.new ≡ [] }
-    ensures kept { L.content library.new ≡ L.content library.old }
+    ensures kept { StaysTold L.content L.coming library.old library.new }
     ensures caused { IsCaused D.is_modelled J.files result
         (observation D.Disk K.Sink L.Library I.Inbox disk.old sink.old library.old inbox.old)
         (observation D.Disk K.Sink L.Library I.Inbox disk.new sink.new library.new inbox.new) }
 {
     match take_turns(
-        alloc, idle, turns, disk, library, inbox, sink, runner, supervisor,
+        alloc, idle, owed, turns, disk, library, inbox, sink, runner, supervisor,
     ) {
         Turned::On(idle) => {
             drop(idle);
@@ -82,6 +84,7 @@ where
 fn serve_set<D: Disk, J: Journal + Drop, L: Library, I: Inbox, K: Sink, R: Runner, S: Supervise>(
     alloc: Global,
     idle: Idle<J>,
+    owed: Owed,
     turns: u32,
     disk: &mut D,
     library: &mut L,
@@ -103,14 +106,14 @@ where
         (outside D.Disk K.Sink R.Runner L.Library I.Inbox disk.new sink.new runner.new library.new inbox.new)
         p h result }
     ensures none { R.living runner.new ≡ [] }
-    ensures kept { L.content library.new ≡ L.content library.old }
+    ensures kept { StaysTold L.content L.coming library.old library.new }
     ensures caused { IsCaused D.is_modelled J.files result
         (observation D.Disk K.Sink L.Library I.Inbox disk.old sink.old library.old inbox.old)
         (observation D.Disk K.Sink L.Library I.Inbox disk.new sink.new library.new inbox.new) }
 {
     match open_set(alloc, &idle, supervisor) {
         Ok(()) => serve_turns(
-            alloc, idle, turns, disk, library, inbox, sink, runner, supervisor,
+            alloc, idle, owed, turns, disk, library, inbox, sink, runner, supervisor,
         ),
         Err(_) => {
             drop(idle);
@@ -122,11 +125,14 @@ where
 
 /// Finishes a pending deployment, and then keeps the set up and deploys the documents of the inbox one after another, for so many
 /// turns or until the inbox is closed. Each turn does what is due, asks the inbox once, and handles its document, or waits for a
-/// second at most. A document that is refused, or whose deployment fails, is a line, and the call goes on. Then all components are
-/// stopped. With a restart, a reboot, or a fault the call ends at once.
+/// second at most. A document that is refused, or whose deployment fails, is a line, and the call goes on. So is a fault that a document
+/// meets before its record: the disk's while its files are taken in, `fault 5 disk`, and want of memory, `fault 15 memory`; it is done
+/// then, and no component is touched. Then all components are stopped. With a restart, a reboot, or another fault the call ends at once.
 ///
-/// Answers 0 where the inbox is closed, 17 behind so many turns, 100 and 101, and 5, 6 and 15. It answers 15 also at the end of
-/// the runner's clock, at 2^62 - 1 milliseconds.
+/// Answers 0 where the inbox is closed, 17 behind so many turns, 100 and 101, and 5, 6 and 15. It answers 15 where there is no memory for
+/// the pending deployment, for an answer of the inbox or to bring the set up, and at the end of the runner's clock, at 2^62 - 1
+/// milliseconds. Stray files of a document that met a fault, or of a close after which there was no memory to sweep, are swept before the
+/// next document; it answers 5 where the disk fails in that.
 pub fn serve<D: Disk, J: Journal + Drop, L: Library, I: Inbox, K: Sink, R: Runner, S: Supervise>(
     alloc: Global,
     state: Loaded<J>,
@@ -153,15 +159,24 @@ where
         (outside D.Disk K.Sink R.Runner L.Library I.Inbox disk.new sink.new runner.new library.new inbox.new)
         p h result }
     ensures none { R.living runner.new ≡ [] }
-    ensures kept { L.content library.new ≡ L.content library.old }
+    ensures kept { StaysTold L.content L.coming library.old library.new }
     // It ends with 5 only where the disk's count rose, and with 6 only where the sink's or the inbox's did.
     ensures caused { IsCaused D.is_modelled J.files result
         (observation D.Disk K.Sink L.Library I.Inbox disk.old sink.old library.old inbox.old)
         (observation D.Disk K.Sink L.Library I.Inbox disk.new sink.new library.new inbox.new) }
 {
     match finish_pending(alloc, state, disk, library, inbox, sink, runner, supervisor) {
-        Ran::Back(idle, _, _) => serve_set(
-            alloc, idle, turns, disk, library, inbox, sink, runner, supervisor,
+        Ran::Back(idle, status, _) => serve_set(
+            alloc,
+            idle,
+            Owed::Nothing.after(status),
+            turns,
+            disk,
+            library,
+            inbox,
+            sink,
+            runner,
+            supervisor,
         ),
         Ran::Over(status) => status,
     }

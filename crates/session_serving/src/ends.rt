@@ -1,5 +1,5 @@
 // How a call that serves ends: what is printed, and what becomes of the components.
-ghost use Rattle.std.specs.Prelude.{◌≡◌, ◌≢◌, ◌≤◌, [], Bool, List, false, true};
+ghost use Rattle.std.specs.Prelude.{◌≡◌, ◌≢◌, ◌≤◌, [], Bool, List, OnErr, OnOk, false, true};
 ghost use Rattle.std.specs.Io.KnownBytes.{Appends};
 ghost use Rattle.nuc_base.specs.Faults.{Rose};
 ghost use Rattle.nuc_base.specs.declared.status.Status.{Status as StatusOf};
@@ -17,14 +17,15 @@ ghost use Rattle.session.specs.Calls.{IsOrEdge, SaysLine};
 ghost use Rattle.session.specs.Parts.{IsReturned};
 ghost use Rattle.session_serving.specs.States.{AreUp};
 ghost use Rattle.session_serving.specs.Served.{ended_line};
+ghost use Rattle.session_serving.specs.Documents.{found_no_memory, memory_line, no_memory_line};
 ghost use Rattle.session_serving.specs.Turns.{GivesUpBy, inbox_line, line_of_fault};
 
 use components::Supervise;
-use edges::{InboxFault, Sink, write_pieces};
+use edges::{EdgeFault, InboxFault, Sink, write_pieces};
 use itoa::Buffer;
 use law_supervisor::{events_keep_order, tellings_keep};
 use nuc_base::Status;
-use session::say;
+use session::{Standing, say};
 use session_shutdown::stop_components;
 use session_steady::settle;
 use session_transitions::kill_all;
@@ -42,6 +43,53 @@ pub(crate) fn say_inbox<K: Sink>(sink: &mut K) -> Status
         Ok(()) => Status::Edge,
         Err(_) => Status::Edge,
     }
+}
+
+/// Whether there was no memory for a document, where a deployment comes back so.
+fn found_no_memory(status: Status, standing: Standing) -> bool
+    ensures { result ≡ found_no_memory status standing }
+{
+    match status {
+        Status::Memory => match standing {
+            Standing::AsBefore => true,
+            Standing::OfSet | Standing::Nobody => false,
+        },
+        _ => false,
+    }
+}
+
+/// Prints that there was no memory for a document.
+fn say_memory<K: Sink>(sink: &mut K) -> Result<(), EdgeFault>
+    ensures line { AppendsPrefix (K.held sink.old) (K.held sink.new) memory_line }
+    // All of it, unless the sink fails.
+    ensures whole { OnOk result (Appends (K.held sink.old) (K.held sink.new) memory_line) }
+    ensures edge { OnErr result (Rose (K.faults sink.old) (K.faults sink.new)) }
+    ensures quiet { OnOk result (K.faults sink.new ≡ K.faults sink.old) }
+    ensures later { K.faults sink.old ≤ K.faults sink.new }
+{
+    match write_pieces(sink, &["fault 15 memory\n"]) {
+        Ok(()) => Ok(()),
+        Err(fault) => Err(fault),
+    }
+}
+
+/// Prints that there was no memory for a document, where a deployment comes back so.
+pub(crate) fn say_if_no_memory<K: Sink>(
+    status: Status,
+    standing: Standing,
+    sink: &mut K,
+) -> Result<(), EdgeFault>
+    ensures line { AppendsPrefix (K.held sink.old) (K.held sink.new) (no_memory_line status standing) }
+    // All of it, unless the sink fails.
+    ensures whole { OnOk result (Appends (K.held sink.old) (K.held sink.new) (no_memory_line status standing)) }
+    ensures edge { OnErr result (Rose (K.faults sink.old) (K.faults sink.new)) }
+    ensures quiet { OnOk result (K.faults sink.new ≡ K.faults sink.old) }
+    ensures later { K.faults sink.old ≤ K.faults sink.new }
+{
+    if !found_no_memory(status, standing) {
+        return Ok(());
+    }
+    say_memory(sink)
 }
 
 /// Prints that the turns are over, and answers that: 6 where the line could not be written.
@@ -95,11 +143,12 @@ pub(crate) fn give_up_asking<K: Sink, R: Runner, S: Supervise>(
     }
 }
 
-/// The clock stands at its end: kills all children.
-pub(crate) fn give_up_at_last<R: Runner, S: Supervise>(runner: &mut R, supervisor: &S)
+/// Kills all children that live, from between two turns, where failures may still be owed: the call gives up.
+pub(crate) fn give_up_serving<R: Runner, S: Supervise>(runner: &mut R, supervisor: &S)
     requires from_state { (p : SessionState) × (d : Device) × AsTold R.Runner runner.old (IsServing p d (S.world supervisor.now)) }
     ensures trace { (p : SessionState) → (d : Device) → AsTold R.Runner runner.old (IsServing p d (S.world supervisor.now)) →
-        (h : List TraceEvent) × ActTrace p h (R.list runner.old) (R.list runner.new) × IsEnd (state_after p h) statuses.Memory false }
+        (h : List TraceEvent) × ActTrace p h (R.list runner.old) (R.list runner.new) ×
+        ((status : StatusOf) → (rose : Bool) → gives_up status ≡ true → IsEnd (state_after p h) status rose) }
     ensures none { R.living runner.new ≡ [] }
 {
     events_keep_order();
@@ -132,12 +181,12 @@ pub(crate) fn stop_spent<R: Runner, S: Supervise>(runner: &mut R, supervisor: &m
     ensures none { R.living runner.new ≡ [] }
 {
     match settle(runner, supervisor) {
-        Some(_now) => {
+        Some(_settled) => {
             stop_all(runner, supervisor);
             true
         }
         None => {
-            give_up_at_last(runner, supervisor);
+            give_up_serving(runner, supervisor);
             false
         }
     }

@@ -14,10 +14,11 @@ ghost use Rattle.session_serving.specs.Documents.{IsDeployedThere};
 ghost use Rattle.session_serving.specs.Parts.{AreOfFiles, outside};
 ghost use Rattle.session_serving.specs.States.{AreUp, IsAsked};
 ghost use Rattle.session_serving.specs.Turns.{DocumentLeft, HandleLeft, HasEnded, OwnsTurned, StaysRan, UpRan, UpTurned, status_of_turned};
+ghost use Rattle.library_core.specs.Library.{StaysTold};
 
-use crate::ends::{give_up, say_inbox};
+use crate::ends::{give_up, say_inbox, say_if_no_memory};
 use crate::standing::stand_again;
-use crate::turned::Turned;
+use crate::turned::{Owed, Turned};
 use components::Supervise;
 use deploy_state::Idle;
 use disk_model::Disk;
@@ -30,11 +31,13 @@ use session::{Ran, run_document};
 use std::alloc::Global;
 use step_runner::Runner;
 
-/// Deploys the document that the inbox gave, or says why not.
+/// Deploys the document that the inbox gave, or says why not, also that there was no memory for it. Where that line cannot be written
+/// all children are killed, and the call ends with 6.
 fn deploy_given<D: Disk, J: Journal + Drop, L: Library, I: Inbox, K: Sink, R: Runner, S: Supervise>(
     alloc: Global,
     idle: Idle<J>,
     document: &[u8],
+    owed: &mut Owed,
     disk: &mut D,
     library: &mut L,
     inbox: &I,
@@ -57,7 +60,7 @@ where
     ensures held { OwnsOver D.Disk J.Journal OwnsRan result disk.new }
     ensures up { UpRan result (S.world supervisor.new) }
     ensures none { IsOver result → R.living runner.new ≡ [] }
-    ensures kept { L.content library.new ≡ L.content library.old }
+    ensures kept { StaysTold L.content L.coming library.old library.new }
     ensures stays { StaysRan result }
     ensures caused { IsCaused D.is_modelled J.files (status_of_ran result)
         (observation D.Disk K.Sink L.Library I.Inbox disk.old sink.old library.old inbox.now)
@@ -66,9 +69,22 @@ where
     components_run_their_items();
     deployments_serve_alike();
     idle_calls_are_steady();
-    run_document(
+    match run_document(
         alloc, idle, document, disk, library, sink, runner, supervisor,
-    )
+    ) {
+        Ran::Back(idle, status, standing) => match say_if_no_memory(status, standing, sink) {
+            Ok(()) => {
+                *owed = owed.after(status);
+                Ran::Back(idle, status, standing)
+            }
+            Err(_) => {
+                drop(idle);
+                give_up(runner, supervisor);
+                Ran::Over(Status::Edge)
+            }
+        },
+        Ran::Over(status) => Ran::Over(status),
+    }
 }
 
 fn asks_restart(status: Status) -> bool
@@ -91,6 +107,7 @@ pub(crate) fn handle<
     alloc: Global,
     idle: Idle<J>,
     document: &[u8],
+    owed: &mut Owed,
     disk: &mut D,
     library: &mut L,
     inbox: &mut I,
@@ -114,13 +131,13 @@ where
     ensures held { OwnsOver D.Disk J.Journal OwnsTurned result disk.new }
     ensures up { UpTurned result (S.world supervisor.new) }
     ensures none { HasEnded result → R.living runner.new ≡ [] }
-    ensures kept { L.content library.new ≡ L.content library.old }
+    ensures kept { StaysTold L.content L.coming library.old library.new }
     ensures caused { IsCaused D.is_modelled J.files (status_of_turned result)
         (observation D.Disk K.Sink L.Library I.Inbox disk.old sink.old library.old inbox.old)
         (observation D.Disk K.Sink L.Library I.Inbox disk.new sink.new library.new inbox.new) }
 {
     match deploy_given(
-        alloc, idle, document, disk, library, inbox, sink, runner, supervisor,
+        alloc, idle, document, owed, disk, library, inbox, sink, runner, supervisor,
     ) {
         Ran::Back(idle, _, standing) => match inbox.done() {
             Ok(()) => stand_again(alloc, idle, standing, disk, runner, supervisor),

@@ -9,10 +9,15 @@ mod calls;
 mod ends;
 mod handling;
 mod opening;
+mod pauses;
 mod pending;
+mod restarting;
 mod standing;
+mod sweeping;
 mod turned;
 mod turns;
 
 pub use calls::serve;
+pub use pauses::{Look, Pause};
+pub use restarting::Came;
 pub use turned::Turned;

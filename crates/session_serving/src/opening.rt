@@ -13,6 +13,7 @@ ghost use Rattle.histories.specs.States.{SessionState, state_after};
 ghost use Rattle.histories.specs.TraceEvents.{TraceEvent};
 ghost use Rattle.session_boots.specs.Traces.{ActTrace};
 ghost use Rattle.session_steady.specs.Serves.{IsServing};
+ghost use Rattle.session_serving.specs.Pauses.{IsChangeAlone};
 ghost use Rattle.session_serving.specs.States.{AreUp, IsUnopened};
 
 use components::{Mode, Supervise, marks_are_least, one_platform};
@@ -63,7 +64,7 @@ where
     ensures trace { OnOk result ((p : SessionState) → (told : Told) → (living : ListOf ℕ) →
         IsUnopened p (idle_device idle.now) (S.world supervisor.old) told living →
         (h : ListOf TraceEvent) × ActTrace p h told.list told.list × IsServing (state_after p h) (idle_device idle.now) (S.world supervisor.new) told living
-        × ((state_after p h).turns ≡ p.turns)) }
+        × ((state_after p h).turns ≡ p.turns) × IsChangeAlone h) }
     ensures up { OnOk result (AreUp (idle_device idle.now) (S.world supervisor.new)) }
     ensures same { OnErr result (S.world supervisor.new ≡ S.world supervisor.old) }
 {

@@ -13,10 +13,14 @@ ghost use Rattle.session_serving.specs.Documents.{IsDeployedThere};
 ghost use Rattle.session_serving.specs.Parts.{AreOfFiles, outside};
 ghost use Rattle.session_serving.specs.States.{AreUp};
 ghost use Rattle.session_serving.specs.Turns.{HasEnded, OwnsTurned, TurnLeft, TurnsLeft, UpTurned, status_of_turned};
+ghost use Rattle.library_core.specs.Library.{StaysTold};
 
-use crate::ends::{give_up_asking, give_up_at_last};
+use crate::ends::{give_up_asking, give_up_serving};
 use crate::handling::handle;
-use crate::turned::Turned;
+use crate::pauses::{Pause, begin, documented};
+use crate::restarting::settle_turn;
+use crate::sweeping::{give_up_sweeping, sweep_owed};
+use crate::turned::{Owed, Turned};
 use components::Supervise;
 use deploy_state::Idle;
 use disk_model::Disk;
@@ -24,7 +28,7 @@ use edges::{Inbox, Incoming, Sink};
 use gate_log::Journal;
 use library_core::Library;
 use nuc_base::Status;
-use session_steady::{settle, wait_turn};
+use session_steady::wait_turn;
 use std::alloc::Global;
 use step_runner::Runner;
 
@@ -33,6 +37,8 @@ fn ask<D: Disk, J: Journal + Drop, L: Library, I: Inbox, K: Sink, R: Runner, S: 
     alloc: Global,
     idle: Idle<J>,
     now: u64,
+    owed: &mut Owed,
+    pause: &mut Pause,
     disk: &mut D,
     library: &mut L,
     inbox: &mut I,
@@ -56,7 +62,7 @@ where
     ensures held { OwnsOver D.Disk J.Journal OwnsTurned result disk.new }
     ensures up { UpTurned result (S.world supervisor.new) }
     ensures none { HasEnded result → R.living runner.new ≡ [] }
-    ensures kept { L.content library.new ≡ L.content library.old }
+    ensures kept { StaysTold L.content L.coming library.old library.new }
     ensures caused { IsCaused D.is_modelled J.files (status_of_turned result)
         (observation D.Disk K.Sink L.Library I.Inbox disk.old sink.old library.old inbox.old)
         (observation D.Disk K.Sink L.Library I.Inbox disk.new sink.new library.new inbox.new) }
@@ -69,10 +75,12 @@ where
             }
             Incoming::Closed => Turned::Shut(idle),
             Incoming::Document(bytes) => {
+                *pause = documented(*pause);
                 let turned = handle(
                     alloc,
                     idle,
                     bytes.as_slice(),
+                    owed,
                     disk,
                     library,
                     inbox,
@@ -92,9 +100,11 @@ where
 }
 
 /// Does what is due, and asks the inbox once: a document is handled, and where there is none the turn waits once.
-fn turn<D: Disk, J: Journal + Drop, L: Library, I: Inbox, K: Sink, R: Runner, S: Supervise>(
+fn take_turn<D: Disk, J: Journal + Drop, L: Library, I: Inbox, K: Sink, R: Runner, S: Supervise>(
     alloc: Global,
     idle: Idle<J>,
+    owed: &mut Owed,
+    pause: &mut Pause,
     disk: &mut D,
     library: &mut L,
     inbox: &mut I,
@@ -117,19 +127,73 @@ where
     ensures held { OwnsOver D.Disk J.Journal OwnsTurned result disk.new }
     ensures up { UpTurned result (S.world supervisor.new) }
     ensures none { HasEnded result → R.living runner.new ≡ [] }
-    ensures kept { L.content library.new ≡ L.content library.old }
+    ensures kept { StaysTold L.content L.coming library.old library.new }
     ensures caused { IsCaused D.is_modelled J.files (status_of_turned result)
         (observation D.Disk K.Sink L.Library I.Inbox disk.old sink.old library.old inbox.old)
         (observation D.Disk K.Sink L.Library I.Inbox disk.new sink.new library.new inbox.new) }
 {
-    match settle(runner, supervisor) {
-        Some(now) => ask(
-            alloc, idle, now, disk, library, inbox, sink, runner, supervisor,
+    match settle_turn(alloc, &idle, pause, runner, supervisor) {
+        Some(settled) => ask(
+            alloc,
+            idle,
+            settled.now,
+            owed,
+            pause,
+            disk,
+            library,
+            inbox,
+            sink,
+            runner,
+            supervisor,
         ),
         None => {
             drop(idle);
-            give_up_at_last(runner, supervisor);
+            give_up_serving(runner, supervisor);
             Turned::Over(Status::Memory)
+        }
+    }
+}
+
+/// A turn, before which stray files are swept where that is owed. Where the disk fails in that the call ends.
+fn turn<D: Disk, J: Journal + Drop, L: Library, I: Inbox, K: Sink, R: Runner, S: Supervise>(
+    alloc: Global,
+    idle: Idle<J>,
+    owed: &mut Owed,
+    pause: &mut Pause,
+    disk: &mut D,
+    library: &mut L,
+    inbox: &mut I,
+    sink: &mut K,
+    runner: &mut R,
+    supervisor: &mut S,
+) -> Turned<J>
+where
+    S::Ready: Drop,
+    requires held { OwnsOver D.Disk J.Journal OwnsIdle idle disk.old }
+    requires apart { LieElsewhere J.files }
+    requires own { AreOfFiles J.files J.entries }
+    requires up { AreUp (idle_device idle) (S.world supervisor.old) }
+    requires from_state { (p : SessionState) × AsTold R.Runner runner.old (IsServing p (idle_device idle) (S.world supervisor.old)) × (1 ≤ p.turns) }
+    ensures left { (p : SessionState) → AsTold R.Runner runner.old (IsServing p (idle_device idle) (S.world supervisor.old)) → 1 ≤ p.turns →
+        (h : List TraceEvent) × TurnLeft D.Disk J.Journal (IsDeployedThere (L.content library.old)) result
+        (outside D.Disk K.Sink R.Runner L.Library I.Inbox disk.old sink.old runner.old library.old inbox.old)
+        (outside D.Disk K.Sink R.Runner L.Library I.Inbox disk.new sink.new runner.new library.new inbox.new)
+        p h (S.world supervisor.new) (Listed R.list R.told R.asked runner.new) (R.living runner.new) }
+    ensures held { OwnsOver D.Disk J.Journal OwnsTurned result disk.new }
+    ensures up { UpTurned result (S.world supervisor.new) }
+    ensures none { HasEnded result → R.living runner.new ≡ [] }
+    ensures kept { StaysTold L.content L.coming library.old library.new }
+    ensures caused { IsCaused D.is_modelled J.files (status_of_turned result)
+        (observation D.Disk K.Sink L.Library I.Inbox disk.old sink.old library.old inbox.old)
+        (observation D.Disk K.Sink L.Library I.Inbox disk.new sink.new library.new inbox.new) }
+{
+    match sweep_owed(alloc, &idle, owed, disk) {
+        Ok(()) => take_turn(
+            alloc, idle, owed, pause, disk, library, inbox, sink, runner, supervisor,
+        ),
+        Err(_) => {
+            drop(idle);
+            Turned::Over(give_up_sweeping(sink, runner, supervisor))
         }
     }
 }
@@ -146,6 +210,7 @@ pub(crate) fn take_turns<
 >(
     alloc: Global,
     idle: Idle<J>,
+    owed: Owed,
     turns: u32,
     disk: &mut D,
     library: &mut L,
@@ -169,14 +234,18 @@ where
     ensures held { OwnsOver D.Disk J.Journal OwnsTurned result disk.new }
     ensures up { UpTurned result (S.world supervisor.new) }
     ensures none { HasEnded result → R.living runner.new ≡ [] }
-    ensures kept { L.content library.new ≡ L.content library.old }
+    ensures kept { StaysTold L.content L.coming library.old library.new }
     ensures caused { IsCaused D.is_modelled J.files (status_of_turned result)
         (observation D.Disk K.Sink L.Library I.Inbox disk.old sink.old library.old inbox.old)
         (observation D.Disk K.Sink L.Library I.Inbox disk.new sink.new library.new inbox.new) }
 {
     let mut idle = idle;
+    let mut owed = owed;
+    let mut pause = begin();
     'turns: for _turn in 0..turns {
-        match turn(alloc, idle, disk, library, inbox, sink, runner, supervisor) {
+        match turn(
+            alloc, idle, &mut owed, &mut pause, disk, library, inbox, sink, runner, supervisor,
+        ) {
             Turned::On(next) => {
                 idle = next;
             }

@@ -1,4 +1,5 @@
 pub mod Since
+pub mod Failures
 pub mod Hearing
 pub mod Staying
 pub mod Serving

@@ -1,4 +1,5 @@
 pub mod Acting
+pub mod Failures
 pub mod Runs
 pub mod Serves
 pub mod Stays

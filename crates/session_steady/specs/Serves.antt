@@ -10,6 +10,7 @@ use Rattle.histories.specs.States.{SessionState, is_wait}
 use Rattle.histories.specs.Courses.{IsStateOf}
 use Rattle.law_supervisor.specs.Sound.{IsOrderly}
 use Rattle.session_acts.specs.Runs.{IsInTurn}
+use Rattle.session_steady.specs.declared.settling.Settled.{Settled}
 use Rattle.session_steady.specs.Runs.{IsSame}
 
 -- Nothing is pending, the set was brought up and its components are there, and no bootstrap is about.
@@ -48,9 +49,9 @@ pub record IsWaiting (p : SessionState) (d : Device) (world : Components) (told 
 
 -- What settling leaves, from x on: every act was taken, or the clock stands at its end, where steps that are late as they
 -- start could be tried again for ever.
-abbrev pub SettledLeft : SessionState → Option ℕ → SessionState → Device → Components → Told → List ℕ → Type 0
+abbrev pub SettledLeft : SessionState → Option Settled → SessionState → Device → Components → Told → List ℕ → Type 0
 SettledLeft x None q d world told living = IsServing q d world told living × IsSame x q × (q.answer ≡ x.answer)
-SettledLeft x (Some now) q d world told living = IsAsking q d world told living × IsSame x q × (q.answer ≡ x.answer)
+SettledLeft x (Some s) q d world told living = IsAsking q d world told living × IsSame x q × (q.answer ≡ x.answer)
 
 -- one wait, which elapsed or in which the child of a component ended
 abbrev pub IsOneWait : List TraceEvent → Type 0

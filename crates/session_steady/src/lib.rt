@@ -10,5 +10,5 @@ mod acts;
 mod settling;
 mod waits;
 
-pub use settling::settle;
+pub use settling::{Settled, settle};
 pub use waits::wait_turn;

@@ -5,16 +5,21 @@ ghost use Rattle.std.specs.List.{list_any, list_all};
 ghost use Rattle.std.specs.Str.{bytes_eq};
 ghost use Rattle.nuc_base.specs.Faults.{HasCause, Rose};
 ghost use Rattle.step_runner.specs.Entries.{HasNoted, Listed, without, HasGrownBy};
-ghost use Rattle.step_runner.specs.Waits.{waited, WaitLives, WaitTime, WaitFaults, RoseAtLost, is_own, IsOwnEnd};
+ghost use Rattle.step_runner.specs.Waits.{waited, WaitLives, WaitTime, WaitFaults, RoseAtLost, IsLostEnd, is_own, IsOwnEnd};
+ghost use Rattle.step_runner.specs.Views.{those_shown, WasShown};
 ghost use Rattle.step_runner.specs.declared.entries.Seen.TheVariants as seen;
 ghost use Rattle.step_runner.specs.declared.ends.ScriptedEnd.{ScriptedEnd};
 ghost use Rattle.step_runner.specs.declared.entries.RunnerEntry.{RunnerEntry};
 ghost use Rattle.step_runner.specs.declared.entries.Seen.{Seen};
+ghost use Rattle.nuc_base.specs.declared.kinds.Exit.TheVariants as exits;
 
 use crate::command::Command;
 use crate::ends::{ScriptedEnd, forget_child, next_end};
 use crate::entries::{RunnerEntry, Seen};
 use crate::runner::{Runner, RunnerFault, Waited};
+use crate::shown::ShownComponent;
+use crate::view::View;
+use crate::views::KeptViews;
 use nuc_base::{Copied, Exit, List, NoMemory, Text};
 use std::alloc::Global;
 
@@ -22,7 +27,8 @@ const LAST_MOMENT: u64 = (1 << 62) - 1;
 
 /// A runner in memory, which runs nothing. It refuses the starts that a list names, counted from 0, plays the ends of
 /// another, and says of a third list's texts that they are there. Where it finds no memory for a child's number it refuses
-/// that start and counts it; from the first entry on for which it finds none, it tells its list no more.
+/// that start and counts it; from the first entry on for which it finds none, it tells its list no more. It keeps the views that it
+/// is shown, and from the first one on for which it finds no memory it tells none.
 #[derive(Drop)]
 pub struct ScriptedRunner {
     alloc: Global,
@@ -37,6 +43,7 @@ pub struct ScriptedRunner {
     told: u64,
     asked: bool,
     is_modelled: bool,
+    views: KeptViews,
     faults: u64,
     ghost in_time: { clock < 2 ^ 62 },
     ghost past: { told ≤ clock },
@@ -55,6 +62,7 @@ fn note(entries: &mut List<RunnerEntry>, is_modelled: bool, entry: RunnerEntry) 
 fn faults_after(faults: u64, exit: Exit) -> u64
     ensures later { faults ≤ result }
     ensures lost { RoseAtLost faults result exit }
+    ensures quiet { ¬ (exit ≡ exits.Lost) → result ≡ faults }
 {
     if matches!(exit, Exit::Lost) {
         faults.saturating_add(1)
@@ -89,7 +97,7 @@ fn on_path_seen(alloc: Global, word: &Text, found: bool) -> Result<Seen, NoMemor
 
 impl ScriptedRunner {
     ghost use Rattle.step_runner.specs.Scripted.{unplayed, refused_starts, present_texts, start_calls, entries_kept, entries_told, moment_asked, is_asked};
-    ghost use Rattle.step_runner.specs.Scripted.{now_of, living_of, started_by, faults_by, IsSameButList, in_time};
+    ghost use Rattle.step_runner.specs.Scripted.{now_of, living_of, started_by, faults_by, views_shown, views_by, IsSameButList, in_time};
 
     /// Each exit is one that a child can have by itself.
     pub fn new(
@@ -109,6 +117,7 @@ impl ScriptedRunner {
         ensures now { now_of result ≡ 0 }
         ensures living { living_of result ≡ [] }
         ensures started { started_by result ≡ 0 }
+        ensures views { views_by result ≡ Some [] }
         ensures faults { faults_by result ≡ 0 }
     {
         ScriptedRunner {
@@ -124,6 +133,7 @@ impl ScriptedRunner {
             told: 0,
             asked: false,
             is_modelled: true,
+            views: KeptViews::new(alloc),
             faults: 0,
         }
     }
@@ -133,6 +143,13 @@ impl ScriptedRunner {
         ensures { result.now ≡ entries_kept self.now }
     {
         &self.entries
+    }
+
+    /// The views that it was shown. Where it tells them no more, these are those up to then.
+    pub fn views(&self) -> &List<List<ShownComponent>>
+        ensures { result.now ≡ views_shown self.now }
+    {
+        self.views.views()
     }
 
     /// Adds an entry, for which a moment has to be asked for anew.
@@ -221,6 +238,7 @@ impl ScriptedRunner {
         ensures list { Listed entries_told moment_asked is_asked self.new ≡ Listed entries_told moment_asked is_asked self.old }
         ensures rest { (unplayed self.new ≡ unplayed self.old) × (now_of self.new ≡ now_of self.old) }
         ensures given { (refused_starts self.new ≡ refused_starts self.old) × (present_texts self.new ≡ present_texts self.old) }
+        ensures views { views_by self.new ≡ views_by self.old }
     {
         let call = self.calls;
         let child = self.next;
@@ -241,9 +259,11 @@ impl ScriptedRunner {
         ensures living { living_of self.new ≡ without end.child (living_of self.old) }
         ensures now { now_of self.new ≡ in_time (max (now_of self.old) end.at) }
         ensures faults { (faults_by self.old ≤ faults_by self.new) × RoseAtLost (faults_by self.old) (faults_by self.new) end.exit }
+        ensures quiet { ¬ (end.exit ≡ exits.Lost) → faults_by self.new ≡ faults_by self.old }
         ensures list { Listed entries_told moment_asked is_asked self.new ≡ Listed entries_told moment_asked is_asked self.old }
         ensures rest { (unplayed self.new ≡ unplayed self.old) × (started_by self.new ≡ started_by self.old) × (start_calls self.new ≡ start_calls self.old) }
         ensures given { (refused_starts self.new ≡ refused_starts self.old) × (present_texts self.new ≡ present_texts self.old) }
+        ensures views { views_by self.new ≡ views_by self.old }
     {
         self.clock = self.clock.max(end.at).min(LAST_MOMENT);
         forget_child(&mut self.living, end.child);
@@ -253,7 +273,7 @@ impl ScriptedRunner {
 
 impl Runner for ScriptedRunner {
     ghost use Rattle.step_runner.specs.Scripted.{unplayed, refused_starts, present_texts, start_calls, entries_kept, entries_told, moment_asked, is_asked};
-    ghost use Rattle.step_runner.specs.Scripted.{now_of, living_of, started_by, faults_by, IsSameButList, WaitOutcome};
+    ghost use Rattle.step_runner.specs.Scripted.{now_of, living_of, started_by, faults_by, views_by, shown_by, IsSameButList, IsSameButViews, WaitOutcome};
 
     ghost list = { entries_told };
 
@@ -267,6 +287,8 @@ impl Runner for ScriptedRunner {
 
     ghost started = { started_by };
 
+    ghost shown = { shown_by };
+
     ghost faults = { faults_by };
 
     fn start(&mut self, command: &Command) -> Result<u64, RunnerFault>
@@ -279,11 +301,14 @@ impl Runner for ScriptedRunner {
             (seen.Refused command.now)) }
         ensures same { OnErr result ((living_of self.new ≡ living_of self.old) × (started_by self.new ≡ started_by self.old)) }
         ensures time { now_of self.old ≤ now_of self.new }
+        ensures shown { shown_by self.new ≡ shown_by self.old }
         ensures cause { HasCause (faults_by self.old) (faults_by self.new) result }
+        ensures quiet { IfOk result (λ n. faults_by self.new ≡ faults_by self.old) }
         ensures listed { Contains (refused_starts self.old) (start_calls self.old) → IsErr result }
         ensures counted { start_calls self.new ≡ min (start_calls self.old + 1) (2 ^ 64 - 1) }
         ensures rest { (unplayed self.new ≡ unplayed self.old) × (now_of self.new ≡ now_of self.old) }
         ensures given { (refused_starts self.new ≡ refused_starts self.old) × (present_texts self.new ≡ present_texts self.old) }
+        ensures views { views_by self.new ≡ views_by self.old }
     {
         match self.admit() {
             Some(child) => {
@@ -305,10 +330,13 @@ impl Runner for ScriptedRunner {
         ensures exit { IsOwnEnd result }
         ensures time { WaitTime (now_of self.old) (now_of self.new) limit result }
         ensures same { started_by self.new ≡ started_by self.old }
+        ensures shown { shown_by self.new ≡ shown_by self.old }
         ensures faults { WaitFaults (faults_by self.old) (faults_by self.new) result }
+        ensures quiet { ¬ (IsLostEnd result) → faults_by self.new ≡ faults_by self.old }
         ensures plays { WaitOutcome limit self.old self.new result }
         ensures calls { start_calls self.new ≡ start_calls self.old }
         ensures given { (refused_starts self.new ≡ refused_starts self.old) × (present_texts self.new ≡ present_texts self.old) }
+        ensures views { views_by self.new ≡ views_by self.old }
     {
         let until = self.clock + limit;
         match next_end(self.ends.as_slice(), self.living.as_slice(), until) {
@@ -332,9 +360,11 @@ impl Runner for ScriptedRunner {
         ensures lives { living_of self.new ≡ without child (living_of self.old) }
         ensures time { now_of self.old ≤ now_of self.new }
         ensures same { started_by self.new ≡ started_by self.old }
-        ensures faults { faults_by self.old ≤ faults_by self.new }
+        ensures shown { shown_by self.new ≡ shown_by self.old }
+        ensures quiet { faults_by self.new ≡ faults_by self.old }
         ensures rest { (unplayed self.new ≡ unplayed self.old) × (now_of self.new ≡ now_of self.old) × (start_calls self.new ≡ start_calls self.old) }
         ensures given { (refused_starts self.new ≡ refused_starts self.old) × (present_texts self.new ≡ present_texts self.old) }
+        ensures views { views_by self.new ≡ views_by self.old }
     {
         forget_child(&mut self.living, child);
         self.keep_seen(Seen::Killed(child));
@@ -349,7 +379,8 @@ impl Runner for ScriptedRunner {
         ensures list { entries_told self.new ≡ entries_told self.old }
         ensures lives { living_of self.new ≡ living_of self.old }
         ensures same { started_by self.new ≡ started_by self.old }
-        ensures faults { faults_by self.old ≤ faults_by self.new }
+        ensures shown { shown_by self.new ≡ shown_by self.old }
+        ensures quiet { faults_by self.new ≡ faults_by self.old }
         ensures rest { IsSameButList self.old self.new }
     {
         self.told = self.clock;
@@ -363,7 +394,8 @@ impl Runner for ScriptedRunner {
         ensures lives { living_of self.new ≡ living_of self.old }
         ensures time { now_of self.old ≤ now_of self.new }
         ensures same { started_by self.new ≡ started_by self.old }
-        ensures faults { faults_by self.old ≤ faults_by self.new }
+        ensures shown { shown_by self.new ≡ shown_by self.old }
+        ensures quiet { faults_by self.new ≡ faults_by self.old }
         ensures present { result ≡ list_any (λ t. bytes_eq t path.now) (present_texts self.old) }
         ensures rest { IsSameButList self.old self.new }
     {
@@ -378,13 +410,27 @@ impl Runner for ScriptedRunner {
         ensures lives { living_of self.new ≡ living_of self.old }
         ensures time { now_of self.old ≤ now_of self.new }
         ensures same { started_by self.new ≡ started_by self.old }
-        ensures faults { faults_by self.old ≤ faults_by self.new }
+        ensures shown { shown_by self.new ≡ shown_by self.old }
+        ensures quiet { faults_by self.new ≡ faults_by self.old }
         ensures present { result ≡ list_any (λ t. bytes_eq t word.now) (present_texts self.old) }
         ensures rest { IsSameButList self.old self.new }
     {
         let found = self.present.as_slice().contains(word);
         self.keep_on_path(word, found);
         found
+    }
+
+    fn show<V: View>(&mut self, view: &V)
+        ensures shown { WasShown (shown_by self.new) (V.components view.now) }
+        ensures notes { Listed entries_told moment_asked is_asked self.new ≡ Listed entries_told moment_asked is_asked self.old }
+        ensures lives { living_of self.new ≡ living_of self.old }
+        ensures time { now_of self.new ≡ now_of self.old }
+        ensures same { started_by self.new ≡ started_by self.old }
+        ensures quiet { faults_by self.new ≡ faults_by self.old }
+        ensures views { HasGrownBy (views_by self.old) (views_by self.new) (those_shown (V.components view.now) ∷ []) }
+        ensures rest { IsSameButViews self.old self.new }
+    {
+        self.views.keep(self.alloc, view);
     }
 
     ghost past = { λ r. r.past };

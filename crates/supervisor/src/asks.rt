@@ -1,19 +1,21 @@
 //! What is asked of all components.
-ghost use Rattle.std.specs.Prelude.{◌≡◌, ◌<◌, ◌&&◌, ◌||◌, ◌==◌, not, length, map, option_map, option_and_then, Some, IsSome, IfSome, slice_get, ◌^◌, ◌+◌, ℕ};
+ghost use Rattle.std.specs.Prelude.{◌≡◌, ◌<◌, ◌&&◌, ◌||◌, ◌==◌, not, length, map, option_map, option_and_then, filter, Some, IsSome, IfSome, slice_get, ◌^◌, ◌+◌, ℕ};
 ghost use Rattle.std.specs.List.{list_any, find};
 ghost use Rattle.components.specs.Answers.{child_numbers, living_numbers};
 ghost use Rattle.components.specs.Deadlines.{least_of, earlier};
 ghost use Rattle.components.specs.Numbers.{number_above, least_above, IsNumberAt};
 ghost use Rattle.components.specs.Readied.{AreApart};
 ghost use Rattle.components.specs.Fitted.{prepared_of};
-ghost use Rattle.components.specs.Components.{At, component_name, is_over, stands_up, is_broken as is_state_broken, owner};
+ghost use Rattle.components.specs.Components.{At, component_name, is_over, stands_up, is_broken as is_state_broken, is_down, owner};
+ghost use Rattle.components.specs.Views.{shown_at};
+ghost use Rattle.step_runner.specs.Views.{shown_as};
 
 use crate::children::{child_of, earlier_of, least_with};
 use crate::slot::Slot;
 use components::{Child, Prepared};
 use nuc_base::{Name, Step};
 use recipe_reader::Skip;
-use step_runner::Command;
+use step_runner::{Command, ViewedComponent};
 
 /// Whether it stands, and is not up or is to be stopped.
 fn is_unsettled(slot: &Slot) -> bool
@@ -62,6 +64,24 @@ pub(crate) fn broken_in(slots: &[Slot]) -> Option<&Name>
         None => None,
         Some(slot) => Some(slot.name()),
     }
+}
+
+fn is_down(slot: &Slot) -> bool
+    ensures { result ≡ is_down slot.now }
+{
+    slot.is_broken() && !(slot.is_to_stop() || slot.is_gone())
+}
+
+pub(crate) fn broken_among(slots: &[Slot]) -> usize
+    ensures { result ≡ length (filter is_down slots.now) }
+{
+    let mut down = 0;
+    for slot in slots {
+        if is_down(slot) {
+            down += 1;
+        }
+    }
+    down
 }
 
 pub(crate) fn deadline_in(slots: &[Slot]) -> Option<u64>
@@ -181,4 +201,12 @@ pub(crate) fn living_at(slots: &[Slot], at: u32) -> Option<u64>
         found = number_after(slots, found);
     }
     found
+}
+
+/// What is shown of the one at that place, where it stands.
+pub(crate) fn viewed_at(slots: &[Slot], place: usize) -> Option<ViewedComponent<'_>>
+    requires { place < length slots.now }
+    ensures { slice_get (map shown_at slots.now) place ≡ Some (option_map shown_as result) }
+{
+    slots[place].viewed()
 }

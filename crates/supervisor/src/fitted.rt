@@ -314,6 +314,12 @@ impl FittedItem {
         &self.item.name
     }
 
+    pub(crate) fn version(&self) -> &Text
+        ensures { result.now ≡ self.now.item.version }
+    {
+        self.item.version.text()
+    }
+
     pub(crate) fn hard(&self) -> &[Need]
         ensures { result.now ≡ self.now.hard }
     {

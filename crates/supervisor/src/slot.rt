@@ -16,8 +16,10 @@ ghost use Rattle.components.specs.Marks.{may_restart, may_replan};
 ghost use Rattle.components.specs.Acts.{HasStart, kills};
 ghost use Rattle.supervisor.specs.Deeds.{HasChild, IsFor, has_deed};
 ghost use Rattle.supervisor.specs.Holds.{asks_for_good};
+ghost use Rattle.components.specs.Views.{shown_at};
 ghost use Rattle.components.specs.Whole.{IsWhole};
 ghost use Rattle.lifecycle.specs.Awaits.{is_awaited};
+ghost use Rattle.step_runner.specs.Views.{shown_as};
 
 use crate::acting::Deed;
 use crate::children::{Children, has_child_of, has_orphan, is_late_child, outlives, overdue};
@@ -30,6 +32,7 @@ use nuc_base::{Exit, Name, Step};
 use std::cell::Cell;
 use std::marker::Model;
 use std::mem::{replace, swap};
+use step_runner::ViewedComponent;
 
 const LAST_MOMENT: u64 = (1 << 62) - 1;
 
@@ -199,6 +202,22 @@ impl Slot {
         ensures { result ≡ is_over self.now }
     {
         self.life.is_gone() && self.children.as_slice().is_empty()
+    }
+
+    /// What is shown of it, where it stands.
+    pub(crate) fn viewed(&self) -> Option<ViewedComponent<'_>>
+        ensures { option_map shown_as result ≡ shown_at self.now }
+    {
+        if self.is_over() {
+            return None;
+        }
+        Some(ViewedComponent {
+            name: self.name().as_str(),
+            version: self.fitted.version().as_str(),
+            state: self.life.state(),
+            failures: self.life.failures(),
+            is_to_stop: self.is_to_stop(),
+        })
     }
 
     /// Whether it may be restarted at a change.

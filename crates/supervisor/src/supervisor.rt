@@ -7,7 +7,7 @@ ghost use Rattle.records.specs.Stored.{item_view};
 ghost use Rattle.device.specs.Plans.{AreRising, item_name, AreRegularItems, NeedsByName, HasSomeRecipe};
 ghost use Rattle.components.specs.Made.{AreFitted};
 ghost use Rattle.components.specs.Acts.{NextAct};
-ghost use Rattle.components.specs.Answers.{IsExpected, has_answered, is_steady, broken_name, IsLivingAt, IsNextLiving, standing_count};
+ghost use Rattle.components.specs.Answers.{IsExpected, has_answered, is_steady, broken_count, broken_name, IsLivingAt, IsNextLiving, standing_count};
 ghost use Rattle.components.specs.Changes.{changed_to, all_stopped, standing, steadied};
 ghost use Rattle.components.specs.Deadlines.{least_deadline};
 ghost use Rattle.components.specs.Events.{noticed, later};
@@ -28,7 +28,7 @@ use recipe_reader::Skip;
 use records::{Item, Origin};
 use std::alloc::Global;
 use std::marker::Model;
-use step_runner::Command;
+use step_runner::{Command, View, ViewedComponent};
 
 /// The components of a device as they run, in the order of their names; they are numbered from 0. Contracts see it as a
 /// world of components.
@@ -165,6 +165,13 @@ impl Supervisor {
         asks::broken_in(self.slots.as_slice())
     }
 
+    /// How many components are BROKEN, and not to be stopped.
+    pub fn broken_count(&self) -> usize
+        ensures { result ≡ broken_count self.now }
+    {
+        asks::broken_among(self.slots.as_slice())
+    }
+
     /// The least deadline of a living step, in milliseconds. It is at most 1,000,000,000 ms ahead.
     pub fn next_deadline(&self) -> Option<u64>
         ensures least { result ≡ least_deadline self.now }
@@ -215,7 +222,23 @@ impl Supervisor {
     }
 }
 
+impl View for Supervisor {
+    ghost use Rattle.components.specs.Views.{places_of};
+
+    ghost components = { places_of };
+
+    fn places(&self) -> usize {
+        self.slots.len()
+    }
+
+    fn component(&self, place: usize) -> Option<ViewedComponent<'_>> {
+        asks::viewed_at(self.slots.as_slice(), place)
+    }
+}
+
 impl Supervise for Supervisor {
+    ghost use Rattle.components.proofs.Shown.{standing_shown};
+
     type Ready = Ready;
 
     ghost world = { λ (s : Components). s };
@@ -260,6 +283,10 @@ impl Supervise for Supervisor {
         Supervisor::broken(self)
     }
 
+    fn broken_count(&self) -> usize {
+        Supervisor::broken_count(self)
+    }
+
     fn next_deadline(&self) -> Option<u64> {
         Supervisor::next_deadline(self)
     }
@@ -283,4 +310,6 @@ impl Supervise for Supervisor {
     fn skip(&self, component: u32, step: Step) -> Option<&Skip> {
         Supervisor::skip(self, component, step)
     }
+
+    ghost shows = { standing_shown };
 }

@@ -138,10 +138,15 @@ struct SizedLibrary {
 
 impl Library for SizedLibrary {
     ghost use Rattle.std.specs.Prelude.{None};
+    ghost use Rattle.library_core.specs.Nothing.{untold};
 
-    ghost content = { λ _. None };
+    ghost content = { λ _. untold };
+
+    ghost coming = { λ _. None };
 
     ghost faults = { λ _. 0 };
+
+    fn refresh(&mut self) {}
 
     fn count(&mut self, _alloc: Global) -> Result<u32, LibraryFault> {
         Ok(0)

@@ -6,7 +6,7 @@ ghost use Rattle.step_runner.specs.Waits.{is_own};
 ghost use Rattle.step_runner.specs.declared.ends.ScriptedEnd.{ScriptedEnd};
 
 use disk_model::{Disk, MemoryDisk};
-use edges::{MemoryInbox, MemorySink, MemorySource};
+use edges::{Inbox, MemoryInbox, MemorySink, MemorySource};
 use library_core::{MemoryLibrary, Stored};
 use npm_ranges::Version;
 use nuc_base::{Bytes, Exit, Label, List, Name, NoMemory, Status, Text};
@@ -364,11 +364,11 @@ fn source_of(alloc: Global, document: &str, failing: &[u64]) -> Result<MemorySou
 }
 
 /// What the call of these words prints over this source and this inbox, to a sink that fails these calls.
-fn answer_from<D: Disk>(
+fn answer_from<D: Disk, I: Inbox>(
     alloc: Global,
     disk: &mut D,
     library: &mut MemoryLibrary,
-    inbox: &mut MemoryInbox,
+    inbox: &mut I,
     runner: &mut ScriptedRunner,
     words: &Vec<String>,
     source: &mut MemorySource,
@@ -378,7 +378,7 @@ fn answer_from<D: Disk>(
 {
     let mut sink = MemorySink::new(alloc, numbers_of(alloc, failing)?);
     let status = nucleus(
-        alloc, words, disk, library, source, inbox, &mut sink, runner,
+        alloc, "1.0.0", words, disk, library, source, inbox, &mut sink, runner,
     );
     let text = told(alloc, status, sink.bytes());
     drop(sink);
@@ -387,11 +387,11 @@ fn answer_from<D: Disk>(
 
 /// What the call of the words prints over this inbox, with `;` for each line feed, behind the status. The document at the source
 /// is these bytes.
-pub fn answer_with_inbox<D: Disk>(
+pub fn answer_with_inbox<D: Disk, I: Inbox>(
     alloc: Global,
     disk: &mut D,
     library: &mut MemoryLibrary,
-    inbox: &mut MemoryInbox,
+    inbox: &mut I,
     runner: &mut ScriptedRunner,
     command: &str,
     document: &str,

@@ -28,6 +28,7 @@ pub(crate) fn call<D: Disk>(
     let mut inbox = MemoryInbox::new(List::empty(alloc), true, List::empty(alloc));
     let status = nucleus(
         alloc,
+        "1.0.0",
         &words,
         disk,
         library,

@@ -13,6 +13,8 @@ mod certificates;
 #[cfg(test)]
 mod limits;
 #[cfg(test)]
+mod looks;
+#[cfg(test)]
 mod plans;
 #[cfg(test)]
 mod settings;

@@ -15,7 +15,7 @@ const WHY: &str = "nucleus --root /gg why";
 /// Records by names for the table below, each as the bytes that a journal holds of it: a start; a deployment `r5` of
 /// nothing to the group `g`, with revision 5; one to the group `ga`, which wants `X` from 1.0.0 on and before 2.0.0 and
 /// has it in 1.2.9; one to the group `gc`, which has `C` in 1.0.0 with a configuration; one `d5` to the group `g` whose
-/// bootstrap of `A` failed; and how a deployment goes on and ends.
+/// bootstrap of `A` failed; how a deployment goes on and ends; and one of a kind that no program has yet.
 const RECORDS: &[(&str, &[u8])] = &[
     (
         "genesis",
@@ -45,6 +45,7 @@ const RECORDS: &[(&str, &[u8])] = &[
     ("fail", b"\x14\0\0\0\x01A\x01"),
     ("break", b"\x17\0\0\0\x01A"),
     ("activate", b"\x15"),
+    ("newer", b"\x7f\0"),
     ("close", b"\x18\x01"),
     ("back", b"\x18\x02"),
 ];

@@ -117,6 +117,8 @@ fn hello_world_comes(rt: &impl Abort, alloc: Global, disk: &mut MemoryDisk) -> R
 fn hello_world_is_there(rt: &impl Abort, alloc: Global, disk: &mut MemoryDisk) -> Result<(), Fail> {
     assert!(rt; prints(alloc, disk, "status", "", (&[], &[]), STATUS)?);
     assert!(rt; prints(alloc, disk, "audit", "", (&[], &[]), "0|whole;")?);
+    let stopped = "0|component com.example.HelloWorld 1.0.0 STOPPED;";
+    assert!(rt; prints(alloc, disk, "components", "", (&[], &[]), stopped)?);
     assert!(rt; disk.file(FILE) == b"abc".as_slice());
     Ok(())
 }

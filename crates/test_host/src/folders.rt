@@ -61,19 +61,15 @@ fn recipe_is(
     }
 }
 
-/// Whether the recipe at this place cannot be had, which three tries with a tenth of a second between show.
-fn is_missed(
-    rt: &HostRuntime,
-    library: &mut FolderLibrary<'_, HostRuntime>,
-    at: u32,
-) -> Result<bool, Fail> {
+/// Whether the recipes cannot be counted, which three tries with a tenth of a second between show.
+fn is_missed(rt: &HostRuntime, library: &mut FolderLibrary<'_, HostRuntime>) -> Result<bool, Fail> {
     let begun = Instant::now(rt)?;
-    let is_fault = matches!(library.recipe(rt.alloc(), at), Err(LibraryFault::Failed));
+    let is_fault = library.count(rt.alloc()) == Err(LibraryFault::Failed);
     Ok(is_fault && begun.elapsed(rt)?.as_millis() >= 200)
 }
 
-/// Whether recipes count that come after the first count, and not once they are taken away. One that goes away behind a count
-/// is a fault.
+/// Whether recipes count that come after the first count, and not once they are taken away. One that goes away after a count
+/// is given as it was until the next.
 fn sees_what_comes(
     rt: &HostRuntime,
     library: &mut FolderLibrary<'_, HostRuntime>,
@@ -85,9 +81,35 @@ fn sees_what_comes(
     move_in(rt, "recipes-of-a-test/library/recipes/a.json", "first")?;
     let are_two = library.count(alloc) == Ok(2) && recipe_is(alloc, library, 0, "first");
     fs::remove_file(rt, "recipes-of-a-test/library/recipes/b.json")?;
-    let is_fault = is_missed(rt, library, 1)?;
+    let is_held = recipe_is(alloc, library, 1, "second");
+    library.refresh();
+    let is_let_go = library.recipe(alloc, 1).is_err();
     let is_left = library.count(alloc) == Ok(1) && recipe_is(alloc, library, 0, "first");
-    Ok(is_empty && is_one && are_two && is_fault && is_left)
+    Ok(is_empty && is_one && are_two && is_held && is_let_go && is_left)
+}
+
+/// Whether a recipe that fails to be read is a fault of the count, and no more once it is taken away.
+fn misses_what_fails(
+    rt: &HostRuntime,
+    library: &mut FolderLibrary<'_, HostRuntime>,
+) -> Result<bool, Fail> {
+    symlink(
+        rt,
+        "/proc/self/mem",
+        "recipes-of-a-test/library/recipes/c.json",
+    )?;
+    let is_fault = is_missed(rt, library)?;
+    fs::remove_file(rt, "recipes-of-a-test/library/recipes/c.json")?;
+    let is_left = library.count(rt.alloc()) == Ok(1);
+    Ok(is_fault && is_left)
+}
+
+/// Both, one after the other.
+fn sees_and_misses(
+    rt: &HostRuntime,
+    library: &mut FolderLibrary<'_, HostRuntime>,
+) -> Result<bool, Fail> {
+    Ok(sees_what_comes(rt, library)? && misses_what_fails(rt, library)?)
 }
 
 #[test]
@@ -96,14 +118,14 @@ fn recipes_that_come_and_go_count_from_the_next_count_on(rt: HostRuntime) -> Res
     fs::create_dir_all(&rt, "recipes-of-a-test/library/recipes")?;
     fs::create_dir_all(&rt, "recipes-of-a-test/logs")?;
     let mut library = FolderLibrary::new(&rt, root)?;
-    let are_seen = sees_what_comes(&rt, &mut library);
+    let are_right = sees_and_misses(&rt, &mut library);
     drop(library);
-    assert!(rt; are_seen?);
+    assert!(rt; are_right?);
     assert!(rt;
         tells(
             &rt,
             root,
-            " fault library recipe \"library/recipes/b.json\": ",
+            " fault library count \"library/recipes/c.json\": ",
             1
         )?
     );

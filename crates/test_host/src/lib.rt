@@ -15,6 +15,8 @@ mod objects;
 #[cfg(test)]
 mod roots;
 #[cfg(test)]
+mod running;
+#[cfg(test)]
 mod steps;
 #[cfg(test)]
 mod stubborn;

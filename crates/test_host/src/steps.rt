@@ -48,45 +48,26 @@ fn a_child_runs_what_was_written(rt: HostRuntime) -> Result<(), Fail> {
     Ok(())
 }
 
-/// Writes a payload behind a closed gate and a length, and answers how long the journal's file is then.
-fn length_with(disk: &mut FileDisk<'_, HostRuntime>, payload: &[u8]) -> Result<u64, DiskFault> {
-    disk.write_at("journal", 0, &[0])?;
-    disk.write_at("journal", 1, &[0, 0, 0, 5])?;
-    disk.write_at("journal", 5, payload)?;
+/// Whether a file goes on by zeros up to the place that room is asked for, with what it held in front, not where it does so
+/// already, and not by its writes.
+fn makes_room<D: Disk>(disk: &mut D) -> Result<bool, DiskFault> {
+    disk.write_at("journal", 0, &[0, 7])?;
+    let plain = disk.length("journal")?;
+    disk.reserve("journal", 2_097_152)?;
+    let first = disk.length("journal")?;
+    disk.reserve("journal", 2_097_152)?;
+    disk.write_at("journal", 1, &[9; 1_000])?;
+    let again = disk.length("journal")?;
+    disk.reserve("journal", first.saturating_add(1))?;
+    let longer = disk.length("journal")?;
+    let is_kept = reads(disk, "journal", 0, &[0, 9])?;
+    let is_blank = reads(disk, "journal", first, &[0])?;
     disk.sync("journal")?;
-    disk.length("journal")
-}
-
-/// Whether payloads of these two kinds, the later one far behind the earlier one, make the file longer where less than
-/// 344,064 bytes are behind them, and not where that is there.
-fn keeps_room(disk: &mut FileDisk<'_, HostRuntime>) -> Result<bool, DiskFault> {
-    let first = length_with(disk, b"\x12plan")?;
-    let again = length_with(disk, b"\x12plan")?;
-    let last = first.saturating_sub(344_064 + 5);
-    disk.write_at("journal", last, b"\x1dplan")?;
-    let at_last = disk.length("journal")?;
-    disk.write_at("journal", last + 1, b"\x1dplan")?;
-    let behind = disk.length("journal")?;
-    let is_blank = reads(disk, "journal", first, &[0; 8])?;
-    Ok(
-        first >= 10 + 344_064
-            && again == first
-            && at_last == first
-            && behind >= last.saturating_add(6 + 344_064)
-            && is_blank,
-    )
-}
-
-/// Whether room is made for these, and for no record that accepts nothing.
-fn makes_room(disk: &mut FileDisk<'_, HostRuntime>) -> Result<bool, DiskFault> {
-    let plain = length_with(disk, b"\x11made")?;
-    let is_kept = keeps_room(disk)?;
-    disk.sync("journal")?;
-    Ok(plain == 10 && is_kept)
+    Ok(plain == 2 && first >= 2_097_152 && again == first && longer > first && is_kept && is_blank)
 }
 
 #[test]
-fn an_accepted_deployment_has_room(rt: HostRuntime) -> Result<(), Fail> {
+fn a_disk_makes_room(rt: HostRuntime) -> Result<(), Fail> {
     let root = "room-of-a-test";
     fs::create_dir_all(&rt, root)?;
     let mut disk = FileDisk::new(&rt, root, Access::Write)?;

@@ -1,6 +1,6 @@
 //! A reader beside a writer: what is found while the files change between two calls.
 
-ghost use Rattle.std.specs.Prelude.{◌≤◌, false, [], length};
+ghost use Rattle.std.specs.Prelude.{◌≤◌, false, [], length, None};
 ghost use Rattle.test_journals.specs.Untold.{no_image, untold_laws};
 
 use checkpoint_log::Slots;
@@ -60,6 +60,10 @@ impl Disk for SharedDisk {
 
     ghost faults = { λ disk. 0 };
 
+    ghost shortages = { λ disk. 0 };
+
+    ghost writer = { λ disk. None };
+
     ghost laws = { untold_laws _ };
 
     fn length(&mut self, file: &str) -> Result<u64, DiskFault> {
@@ -72,6 +76,10 @@ impl Disk for SharedDisk {
     }
 
     fn write_at(&mut self, _file: &str, _at: u64, _bytes: &[u8]) -> Result<(), DiskFault> {
+        Ok(())
+    }
+
+    fn reserve(&mut self, _file: &str, _to: u64) -> Result<(), DiskFault> {
         Ok(())
     }
 
@@ -89,6 +97,10 @@ impl Disk for SharedDisk {
 
     fn list(&mut self, alloc: Global) -> Result<List<FileName>, ListFault> {
         Ok(List::empty(alloc))
+    }
+
+    fn has_writer(&mut self) -> bool {
+        true
     }
 }
 

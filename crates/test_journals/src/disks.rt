@@ -9,6 +9,7 @@ const FILE: &str = "f";
 enum Act {
     Write(u64, &'static [u8]),
     Cut(u64),
+    Reserve(u64),
     Remove,
     Sync,
 }
@@ -24,6 +25,7 @@ fn make<D: Disk>(disk: &mut D, act: Act) -> Result<(), DiskFault> {
             let old = disk.length(FILE)?;
             disk.cut(FILE, len.min(old))
         }
+        Act::Reserve(to) => disk.reserve(FILE, to),
         Act::Remove => disk.remove(FILE),
         Act::Sync => disk.sync(FILE),
     }
@@ -55,7 +57,7 @@ fn stopped(alloc: Global, stop: u64, want: (&[u8], &[u8])) -> Result<bool, Fail>
 /// A call, what is read after it, what is left where all that is not stable is lost, and where it is filled.
 type Row = (Act, &'static [u8], &'static [u8], &'static [u8]);
 
-const ROWS: [Row; 9] = [
+const ROWS: [Row; 12] = [
     (Act::Write(0, b"abcd"), b"abcd", b"", b"####"),
     (Act::Sync, b"abcd", b"abcd", b"abcd"),
     (Act::Write(2, b"XYZ"), b"abXYZ", b"abcd", b"ab###"),
@@ -65,7 +67,43 @@ const ROWS: [Row; 9] = [
     (Act::Write(0, b"z"), b"z", b"abcd", b"#####"),
     (Act::Sync, b"z", b"z", b"z"),
     (Act::Cut(0), b"", b"z", b"z"),
+    (Act::Reserve(3), b"\0\0\0", b"z", b"###"),
+    (Act::Sync, b"\0\0\0", b"\0\0\0", b"\0\0\0"),
+    (Act::Reserve(2), b"\0\0\0", b"\0\0\0", b"\0\0\0"),
 ];
+
+/// Calls on a disk that has room for six bytes, and whether each is done.
+const FULL: [(Act, bool); 7] = [
+    (Act::Write(0, b"ab"), true),
+    (Act::Reserve(6), true),
+    (Act::Write(2, b"cdef"), true),
+    (Act::Write(6, b"g"), false),
+    (Act::Reserve(7), false),
+    (Act::Write(4, b"EF"), true),
+    (Act::Sync, true),
+];
+
+/// How many of these calls answer so, one after another.
+fn answered(disk: &mut MemoryDisk) -> usize {
+    let mut many = 0usize;
+    for (act, is_done) in &FULL {
+        if make(disk, *act).is_ok() != *is_done {
+            return many;
+        }
+        many = many.saturating_add(1);
+    }
+    many
+}
+
+#[test]
+fn a_full_disk_takes_what_room_was_made_for(rt: HostRuntime) -> Result<(), Fail> {
+    let mut disk = MemoryDisk::new(rt.alloc()).with_room(6);
+    let many = answered(&mut disk);
+    let is_whole = disk.file(FILE) == b"abcdEF".as_slice() && disk.used() == 6;
+    drop(disk);
+    assert!(rt; many == FULL.len() && is_whole);
+    Ok(())
+}
 
 /// Whether this is read, and what is left where all that is not stable is there, is lost and is filled.
 fn shows(
@@ -107,7 +145,7 @@ fn a_crash_leaves_what_the_calls_allow(rt: HostRuntime) -> Result<(), Fail> {
     let mut disk = MemoryDisk::new(rt.alloc());
     let many = held(rt.alloc(), &mut disk, &ROWS);
     drop(disk);
-    assert_eq!(rt; many?, 9, "rows that hold, one after another");
+    assert_eq!(rt; many?, 12, "rows that hold, one after another");
     Ok(())
 }
 

@@ -163,10 +163,12 @@ fn start(number: u64) -> [u8; 9]
     [0x19, a, b, c, d, e, f, g, h]
 }
 
-/// Finds two slots and turns: puts a start and one more entry.
+/// Finds two slots, makes room behind the live entries, and turns: makes room for others and puts a start and one more entry.
 fn turn<D: Disk>(disk: &mut D) -> Result<(), FindFault> {
     let mut slots: Slots = Journal::find(disk)?;
+    slots.reserve(disk, 64)?;
     slots.begin_turn(disk)?;
+    slots.reserve_turn(disk, 64)?;
     let start = start(slots.number().saturating_add(1));
     slots.put(disk, &start)?;
     slots.put(disk, b"\x1c")?;
@@ -197,15 +199,15 @@ fn leaves(alloc: Global, disk: &FusedDisk, pick: Pick, wanted: Found) -> Result<
 type Turn = (&'static [u8], &'static [u8], Found, Found, u64);
 
 const TURNS: [Turn; 4] = [
-    (&ONE, &[], Ok((0, 47)), Ok((1, 20)), 22),
-    (&TURNED_2, &TURNED_1, Ok((2, 14)), Ok((3, 20)), 22),
-    (&TURNED_2, &TURNED_3, Ok((3, 14)), Ok((4, 20)), 22),
+    (&ONE, &[], Ok((0, 47)), Ok((1, 20)), 24),
+    (&TURNED_2, &TURNED_1, Ok((2, 14)), Ok((3, 20)), 24),
+    (&TURNED_2, &TURNED_3, Ok((3, 14)), Ok((4, 20)), 24),
     (
         &ONE,
         &[0, 0, 0, 0, 9, 0x19, 0, 0, 0, 0, 0, 0, 0, 1, 9, 9, 9],
         Ok((0, 47)),
         Ok((1, 20)),
-        20,
+        22,
     ),
 ];
 
@@ -253,7 +255,7 @@ fn told_after(
 #[test]
 fn a_turn_is_whole_or_not_there(rt: HostRuntime) -> Result<(), Fail> {
     for row in &TURNS {
-        for stop in 0..23u64 {
+        for stop in 0..25u64 {
             let (done, wrong) = told_after(rt.alloc(), *row, stop)?;
             assert_eq!(rt; done.is_ok(), stop >= row.4, "answer after {stop}");
             assert_eq!(rt; wrong, None, "image after {stop}");

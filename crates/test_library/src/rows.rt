@@ -18,7 +18,7 @@ const LETTERS: &str = "NML98XBCWF.";
 /// The recipe that a letter stands for: of the built-in component as it is, with one key more and in a later version,
 /// of `A` in version 1.9.0 in two spellings and in 1.10.0, of `b` in two spellings, for another system alone, in another
 /// format, and none.
-fn recipe_of(letter: u8) -> &'static str {
+pub(crate) fn recipe_of(letter: u8) -> &'static str {
     match letter {
         b'N' =>
             r#"{"ComponentName":"aws.greengrass.Nucleus","ComponentVersion":"2.12.0","RecipeFormatVersion":"2020-01-25"}"#,
@@ -90,7 +90,7 @@ F9||2|Recipe(0, FormatVersion)
 |9B8|-|RecipeDiffers("A", "1.9.0")
 |8B9|-|RecipeDiffers("A", "1.9.0")"#;
 
-fn origin(alloc: Global) -> Result<Origin, Fail> {
+pub(crate) fn origin(alloc: Global) -> Result<Origin, Fail> {
     Ok(Origin {
         root: Text::from_str(alloc, "/gg")?,
         thing: Label::read(alloc, b"t1")?,
@@ -131,7 +131,11 @@ fn item(alloc: Global, platform: &Platform, text: &str) -> Result<Item, NoMemory
 }
 
 /// The items of the first three letters.
-fn items(alloc: Global, platform: &Platform, letters: &str) -> Result<List<Item>, NoMemory>
+pub(crate) fn items(
+    alloc: Global,
+    platform: &Platform,
+    letters: &str,
+) -> Result<List<Item>, NoMemory>
     ensures few { IfOk result (λ kept. length kept ≤ 3) }
     ensures read { IfOk result (λ kept. All (IsKept platform.now) (map item_view kept)) }
 {
@@ -163,7 +167,7 @@ fn letters(alloc: Global, candidates: &Candidates) -> Result<String, NoMemory> {
 }
 
 /// The letters of what is gathered, or the fault.
-fn gathered(
+pub(crate) fn gathered(
     alloc: Global,
     library: &mut MemoryLibrary,
     origin: &Origin,
@@ -274,7 +278,7 @@ A 1.9.1 f 0|Ok(Missing) ####
 b 1.9.0 f 0|Ok(Missing) ####";
 
 /// An artifact by its words; the fourth is its bytes.
-fn stored(alloc: Global, line: &str) -> Result<Stored, Fail> {
+pub(crate) fn stored(alloc: Global, line: &str) -> Result<Stored, Fail> {
     let mut words = line.split(' ');
     Ok(Stored {
         name: Name::read(alloc, words.next().unwrap_or("").as_bytes())?,
@@ -310,7 +314,11 @@ fn piece(alloc: Global, library: &mut MemoryLibrary, asked: &Stored) -> Result<S
 }
 
 /// Whether the call is answered as the line says.
-fn is_piece(alloc: Global, library: &mut MemoryLibrary, call: &str) -> Result<bool, Fail> {
+pub(crate) fn is_piece(
+    alloc: Global,
+    library: &mut MemoryLibrary,
+    call: &str,
+) -> Result<bool, Fail> {
     let (asked, want) = call.split_once('|').unwrap_or((call, ""));
     let asked = stored(alloc, asked)?;
     let found = piece(alloc, library, &asked);

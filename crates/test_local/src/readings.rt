@@ -13,6 +13,8 @@ use test_support::{Reader, first_wrong, first_wrong_repeated, push_resets, repea
 // tokens and its merge; or the id of a change and its update. Written by hand from the format.
 const WHOLE_REQUESTS: &str = r#"NotJson|{
 NotWhole|{"deploymentId":1.5}
+TooDeep|[[[[[[[[[[[[[[[[[[[[[[[[[[[[[[[[[[[[[[[[[[[[[[[[[[[[[[[[[[[[[[[[[]]]]]]]]]]]]]]]]]]]]]]]]]]]]]]]]]]]]]]]]]]]]]]]]]]]]]]]]]]]]]]]]]
+TooDeep|{"other":[[[[[[[[[[[[[[[[[[[[[[[[[[[[[[[[[[[[[[[[[[[[[[[[[[[[[[[[[[[[[[[[]]]]]]]]]]]]]]]]]]]]]]]]]]]]]]]]]]]]]]]]]]]]]]]]]]]]]]]]]]]]]]]]}
 WrongKind request|[]
 WrongKind request|null
 Missing deploymentId|{}
@@ -47,6 +49,7 @@ BadMerge X|"updateConfig":{"X":{"merge":"[]"},"Y":1}
 Both A|"merge":{"B":"*","A":"*"},"remove":["B","A"]
 Both B|"merge":{"B":"*","C":"*"},"remove":["A","C","B"]
 l ROLLBACK|"other":[]
+l ROLLBACK|"other":[[[[[[[[[[[[[[[[[[[[[[[[[[[[[[[[[[[[[[[[[[[[[[[[[[[[[[[[[[[[[[[]]]]]]]]]]]]]]]]]]]]]]]]]]]]]]]]]]]]]]]]]]]]]]]]]]]]]]]]]]]]]]]
 l ROLLBACK|"failureHandlingPolicy":null,"merge":null,"remove":null,"updateConfig":null
 l ROLLBACK +X ^1.0.0 ~X merge Fields([("p", Whole(1))])|"merge":{"X":"^1.0.0"},"updateConfig":{"X":{"merge":{"p":1}}}
 l DO_NOTHING -Y -X|"failureHandlingPolicy":"DO_NOTHING","remove":["Y","X","Y","X"]
@@ -66,6 +69,8 @@ WrongKind updateConfig|128|"A|":1"#;
 
 const WHOLE_CHANGES: &str = r#"NotJson|
 NotWhole|{"deploymentId":"c","merge":{"p":0.5}}
+TooDeep|[[[[[[[[[[[[[[[[[[[[[[[[[[[[[[[[[[[[[[[[[[[[[[[[[[[[[[[[[[[[[[[[[]]]]]]]]]]]]]]]]]]]]]]]]]]]]]]]]]]]]]]]]]]]]]]]]]]]]]]]]]]]]]]]]]
+TooDeep|{"other":[[[[[[[[[[[[[[[[[[[[[[[[[[[[[[[[[[[[[[[[[[[[[[[[[[[[[[[[[[[[[[[[]]]]]]]]]]]]]]]]]]]]]]]]]]]]]]]]]]]]]]]]]]]]]]]]]]]]]]]]]]]]]]]]}
 WrongKind document|[]
 Missing deploymentId|{"merge":1}
 WrongKind deploymentId|{"deploymentId":null,"reset":1}
@@ -85,7 +90,8 @@ BadMerge com.example.HelloWorld|"merge":1
 BadMerge com.example.HelloWorld|"merge":"[1]"
 BadMerge com.example.HelloWorld|"MERGE":"{"
 c reset>a~b reset merge Fields([("p", Null)])|"RESET":["/a~0b",""],"merge":"{\"p\":null}"
-c|"reset":null,"MERGE":null"#;
+c|"reset":null,"MERGE":null
+c|"other":[[[[[[[[[[[[[[[[[[[[[[[[[[[[[[[[[[[[[[[[[[[[[[[[[[[[[[[[[[[[[[[]]]]]]]]]]]]]]]]]]]]]]]]]]]]]]]]]]]]]]]]]]]]]]]]]]]]]]]]]]]]]]]"#;
 
 /// What a text is read as.
 #[derive(Clone, Copy)]
@@ -185,6 +191,28 @@ fn count_removed(alloc: Global, count: u32) -> Result<usize, Fail> {
     Ok(removed)
 }
 
+/// An object with that id, and blanks behind it, of so many bytes.
+fn padded(alloc: Global, length: usize) -> Result<String, Fail> {
+    let mut text = String::from_str(alloc, r#"{"deploymentId":"d"}"#)?;
+    for _blank in text.len()..length {
+        text.push(' ')?;
+    }
+    Ok(text)
+}
+
+/// What is answered to so many bytes.
+fn answer_at(alloc: Global, kind: Kind, length: usize) -> Result<String, Fail> {
+    let text = padded(alloc, length)?;
+    kind.answer(alloc, text.as_str())
+}
+
+/// Whether a text is answered so as long as it is no longer than 524,288 bytes, and else is too large.
+fn is_limited(alloc: Global, kind: Kind, wanted: &str) -> Result<bool, Fail> {
+    let most = answer_at(alloc, kind, 524_288)?;
+    let more = answer_at(alloc, kind, 524_289)?;
+    Ok(most.as_str() == wanted && more.as_str() == "TooLarge")
+}
+
 #[test]
 fn requests_are_read(rt: HostRuntime) -> Result<(), Fail> {
     let alloc = rt.alloc();
@@ -233,6 +261,8 @@ fn requests_are_limited(rt: HostRuntime) -> Result<(), Fail> {
         ""
     );
     assert_eq!(rt; count_removed(alloc, 64)?, 65);
+    assert!(rt; is_limited(alloc, Kind::Request, "d ROLLBACK")?);
+    assert!(rt; is_limited(alloc, Kind::Change, "d")?);
     Ok(())
 }
 

@@ -23,6 +23,10 @@ const TABLE: &str = "\
 --root|/gg|config-get|--component|A|--pointer|/a/b => /gg: config-get A 2
 --root|/gg|config-set|--component|A => /gg: config-set A
 --root|/gg|why => /gg: why
+--root|/gg|components => /gg: components
+--root|/gg|about => /gg: about
+--root|/gg|components|--json => usage
+--root|/gg|about|--thing|t1 => usage
 --root=/gg|deploy => /gg: deploy
 --root=|deploy => : deploy
 --root||deploy => : deploy
@@ -111,6 +115,8 @@ fn order_text(alloc: Global, order: &Order) -> Result<String, AllocError> {
         ),
         Order::ConfigSet(name) => format!(in alloc; "config-set {}", name.as_str()),
         Order::Why => String::from_str(alloc, "why"),
+        Order::Components => String::from_str(alloc, "components"),
+        Order::About => String::from_str(alloc, "about"),
     }
 }
 

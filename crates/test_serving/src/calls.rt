@@ -9,7 +9,9 @@ use nuc_base::{Bytes, List};
 use std::alloc::{AllocError, Global};
 use std::test::Fail;
 use step_runner::{RunnerEntry, ScriptedRunner, Seen};
-use test_calls::{Failing, answer_with_inbox, document_of, numbers_behind, recipes_of, runner_of};
+use test_calls::{
+    Failing, answer_with_inbox, document_of, files_of, numbers_behind, recipes_of, runner_of,
+};
 
 /// A call over some disk.
 #[derive(Clone, Copy, Drop)]
@@ -48,10 +50,12 @@ fn inbox_of(alloc: Global, asked: Asked<'_>) -> Result<MemoryInbox, Fail> {
     Ok(MemoryInbox::new(documents, is_closed, failing))
 }
 
+/// A library of the recipes, and of the file `f` of B 1.0.0.
 fn library_of(alloc: Global, asked: Asked<'_>) -> Result<MemoryLibrary, Fail> {
     let recipes = recipes_of(alloc, asked.recipes)?;
     let failing = numbers_behind(alloc, asked.outside, "library")?;
-    Ok(MemoryLibrary::new(recipes, List::empty(alloc), failing))
+    let files = files_of(alloc, b"B", b"f")?;
+    Ok(MemoryLibrary::new(recipes, files, failing))
 }
 
 /// Adds what the runner did.

@@ -9,6 +9,8 @@ mod calls;
 #[cfg(test)]
 mod faults;
 #[cfg(test)]
+mod fitting;
+#[cfg(test)]
 mod memory;
 #[cfg(test)]
 mod rows;

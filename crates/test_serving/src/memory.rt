@@ -76,12 +76,18 @@ fn may_answer(said: &str) -> bool {
         || said.starts_with("6|")
 }
 
+/// Whether want of memory for a document costs no more than that: it is a line, the other document is deployed, and the call ends well.
+fn is_one_document(said: &str) -> bool {
+    !said.contains("fault 15 memory;")
+        || said.starts_with("0|") && (said.contains("closed d2 ") || said.contains("closed d3 "))
+}
+
 /// Whether the call answers as it may, and what it leaves goes on.
 fn bears(alloc: Global, disk: &mut MemoryDisk) -> Result<bool, Fail> {
     mark(alloc);
     let said = call(alloc, disk, asked_of(SERVE, DOCUMENTS, ""))?;
     mark(alloc);
-    let may_answer = may_answer(said.as_str());
+    let may_answer = may_answer(said.as_str()) && is_one_document(said.as_str());
     let told = Told {
         second: said.as_str().contains("accepted d2;"),
         third: said.as_str().contains("accepted d3;"),

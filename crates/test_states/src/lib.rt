@@ -9,6 +9,8 @@ mod driving;
 #[cfg(test)]
 mod offers;
 #[cfg(test)]
+mod room;
+#[cfg(test)]
 mod stores;
 #[cfg(test)]
 mod walks;

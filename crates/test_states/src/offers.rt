@@ -56,7 +56,10 @@ fn origin_of(alloc: Global) -> Option<Origin> {
 }
 
 /// Makes a store, where the disk has none, and the device for which its journal stands once more.
-fn begin<D: Disk, J: Journal + Drop>(alloc: Global, disk: &mut D) -> Option<(Idle<J>, Device)>
+pub(crate) fn begin<D: Disk, J: Journal + Drop>(
+    alloc: Global,
+    disk: &mut D,
+) -> Option<(Idle<J>, Device)>
     ensures held { IfSome result (λ r. OwnsOver D.Disk J.Journal OwnsIdle r.0 disk.new) }
     ensures twin { IfSome result (λ r. device_view r.1 ≡ idle_device r.0) }
 {
@@ -98,7 +101,7 @@ fn plan_of(alloc: Global, bytes: &[u8]) -> Option<Plan>
 
 /// The plan of an Accepted with these bytes, which the device takes.
 #[tactic(auto, using(crate::proofs::Tested::same_plan))]
-fn take_plan(alloc: Global, twin: &mut Device, bytes: &[u8]) -> Option<Plan>
+pub(crate) fn take_plan(alloc: Global, twin: &mut Device, bytes: &[u8]) -> Option<Plan>
     ensures lawful { IfSome result (λ p. Allowed (device_view twin.old) (stored.Accepted (plan_view p))) }
     ensures taken { IfSome result (λ p. device_view twin.new ≡ applied (device_view twin.old) (stored.Accepted (plan_view p))) }
     ensures regular { IfSome result (λ p. IsRegularRecord (stored.Accepted (plan_view p))) }
@@ -115,7 +118,7 @@ fn take_plan(alloc: Global, twin: &mut Device, bytes: &[u8]) -> Option<Plan>
 }
 
 /// Accepts the plan of these bytes, whose deployment has this id.
-fn accept<D: Disk, J: Journal + Drop>(
+pub(crate) fn accept<D: Disk, J: Journal + Drop>(
     alloc: Global,
     disk: &mut D,
     idle: Idle<J>,
@@ -148,7 +151,7 @@ fn accept<D: Disk, J: Journal + Drop>(
 }
 
 /// Brings a deployment without bootstrap steps to its close.
-fn close<D: Disk, J: Journal + Drop>(
+pub(crate) fn close<D: Disk, J: Journal + Drop>(
     alloc: Global,
     disk: &mut D,
     booting: Booting<J>,

@@ -45,7 +45,10 @@ fn tell_state<J: Journal + Drop>(state: &Loaded<J>) -> u32 {
 }
 
 /// How far the store is that is found.
-fn found<J: Journal + Drop>(alloc: Global, disk: &mut MemoryDisk) -> Result<u32, LoadFault> {
+pub(crate) fn found<J: Journal + Drop>(
+    alloc: Global,
+    disk: &mut MemoryDisk,
+) -> Result<u32, LoadFault> {
     match load::<MemoryDisk, J>(alloc, disk) {
         Ok(state) => {
             let answer = tell_state(&state);

@@ -10,3 +10,5 @@ mod lives;
 mod runners;
 #[cfg(test)]
 mod streams;
+#[cfg(test)]
+mod views;

@@ -25,9 +25,14 @@ fn push_words(words: &mut String, names: u32) -> Result<(), AllocError> {
 
 /// The certificate of a library in which `z` needs a version of `y` that there is not, beside names that have no part in it.
 fn late_clash(alloc: Global, names: u32, versions: u32) -> Result<String, Fail> {
+    clash_beside(alloc, names, versions, "y1;z1 y:^2")
+}
+
+/// The same with these rows of `y` and `z`.
+fn clash_beside(alloc: Global, names: u32, versions: u32, clash: &str) -> Result<String, Fail> {
     let mut rows = String::new(alloc);
     push_rows(&mut rows, names, versions)?;
-    rows.push_str("y1;z1 y:^2")?;
+    rows.push_str(clash)?;
     let mut words = String::new(alloc);
     push_words(&mut words, names)?;
     words.push_str("z:*")?;
@@ -59,6 +64,17 @@ fn tells_all_names_where_that_is_not_too_long(rt: HostRuntime) -> Result<(), Fai
     assert_eq!(rt; text.as_str().lines().count(), 2047);
     let text = late_clash(rt.alloc(), 1, 342)?;
     assert_eq!(rt; text.as_str().lines().count(), 5);
+    Ok(())
+}
+
+/// With two versions of `y` each branch has four nodes below it, so that 256 versions make 1 + 4 * 256, one too many: the small
+/// one has the splits of `z` and of `y`, their three branches and two refusals.
+#[test]
+fn tells_no_name_beside_where_that_is_one_node_too_long(rt: HostRuntime) -> Result<(), Fail> {
+    let text = clash_beside(rt.alloc(), 1, 256, "y1;y2;z1 y:^3")?;
+    assert_eq!(rt; text.as_str().lines().count(), 7);
+    let text = clash_beside(rt.alloc(), 1, 255, "y1;y2;z1 y:^3")?;
+    assert_eq!(rt; text.as_str().lines().count(), 2041);
     Ok(())
 }
 
@@ -98,9 +114,9 @@ fn tells_a_chain_as_deep_as_its_names(rt: HostRuntime) -> Result<(), Fail> {
     Ok(())
 }
 
-/// Whether want of memory is answered of a chain of names with ten versions each.
-fn wants_memory(alloc: Global, names: u32) -> Result<bool, Fail> {
-    let rows = chain(alloc, names, 10)?;
+/// Whether want of memory is answered of a chain of names with so many versions each.
+fn wants_memory(alloc: Global, names: u32, versions: u32) -> Result<bool, Fail> {
+    let rows = chain(alloc, names, versions)?;
     let candidates = library_of(alloc, rows.as_str())?;
     let wanted = wanted_of(alloc, "n000:*")?;
     Ok(matches!(explain(alloc, &candidates, &wanted), Err(NoMemory)))
@@ -111,14 +127,23 @@ fn wants_memory(alloc: Global, names: u32) -> Result<bool, Fail> {
 #[test]
 fn gives_up_a_long_chain(rt: HostRuntime) -> Result<(), Fail> {
     let alloc = rt.alloc();
-    assert!(rt; !wants_memory(alloc, 4)?);
-    assert!(rt; wants_memory(alloc, 5)?);
+    assert!(rt; !wants_memory(alloc, 4, 10)?);
+    assert!(rt; wants_memory(alloc, 5, 10)?);
+    Ok(())
+}
+
+/// Three names of 39 versions have 1 + 39 + 39^2 + 39^3 splits, which are 60,880; of 40 they are 65,641, more than 65,536.
+#[test]
+fn gives_up_a_chain_at_its_limit(rt: HostRuntime) -> Result<(), Fail> {
+    let alloc = rt.alloc();
+    assert!(rt; !wants_memory(alloc, 3, 39)?);
+    assert!(rt; wants_memory(alloc, 3, 40)?);
     Ok(())
 }
 
 /// As soon as a short one, but for what it takes to look at more candidates.
 #[test]
 fn gives_up_a_chain_of_thirty_names(rt: HostRuntime) -> Result<(), Fail> {
-    assert!(rt; wants_memory(rt.alloc(), 30)?);
+    assert!(rt; wants_memory(rt.alloc(), 30, 10)?);
     Ok(())
 }

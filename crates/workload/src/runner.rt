@@ -1,9 +1,9 @@
 //! A runner in memory whose children end by draws.
-ghost use Rattle.std.specs.Prelude.{◌≡◌, ◌≤◌, ◌<◌, ◌+◌, ◌^◌, ◌∷◌, [], Some, false, true, Contains};
+ghost use Rattle.std.specs.Prelude.{◌≡◌, ◌≤◌, ◌<◌, ◌+◌, ◌^◌, ◌∷◌, [], Some, None, false, true, Contains};
 ghost use Rattle.std.specs.Prelude.{IfOk, IfSome, IfNone, OnErr};
 ghost use Rattle.nuc_base.specs.Faults.{HasCause, Rose};
 ghost use Rattle.step_runner.specs.Entries.{HasNoted, Listed, without};
-ghost use Rattle.step_runner.specs.Waits.{waited, WaitLives, WaitTime, WaitFaults, IsOwnEnd};
+ghost use Rattle.step_runner.specs.Waits.{waited, WaitLives, WaitTime, WaitFaults, IsLostEnd, IsOwnEnd};
 ghost use Rattle.step_runner.specs.declared.entries.Seen.TheVariants as seen;
 ghost use Rattle.workload.specs.Children.{FallBelow, fall_below-prop, child_of, other_children, code_drawn};
 ghost use Rattle.workload.specs.Generator.{next_draw, next_state};
@@ -13,14 +13,14 @@ use crate::entry_log::EntryLog;
 use crate::generator::Generator;
 use nuc_base::{Exit, List, Text};
 use std::alloc::Global;
-use step_runner::{Command, Runner, RunnerEntry, RunnerFault, Seen, Waited};
+use step_runner::{Command, Runner, RunnerEntry, RunnerFault, Seen, View, Waited};
 
 const LAST_MOMENT: u64 = (1 << 62) - 1;
 
 /// A runner in memory, which runs nothing. Each start takes one draw, and its child ends at the moment of its start: with
 /// code 1 where the draw is a multiple of 8, else with code 0. A wait gives the living child with the least number, and
 /// elapses where none lives. Nothing is found by `exists` and `on_path`. Where it finds no memory for a child it refuses that
-/// start and counts it; from the first entry on for which it finds none, it tells its list no more.
+/// start and counts it; from the first entry on for which it finds none, it tells its list no more. It keeps no view.
 #[derive(Drop)]
 pub struct DrawRunner {
     generator: Generator,
@@ -111,6 +111,8 @@ impl Runner for DrawRunner {
 
     ghost started = { started_by };
 
+    ghost shown = { λ r. None };
+
     ghost faults = { faults_by };
 
     fn start(&mut self, command: &Command) -> Result<u64, RunnerFault>
@@ -124,6 +126,7 @@ impl Runner for DrawRunner {
         ensures same { OnErr result ((living_of self.new ≡ living_of self.old) × (started_by self.new ≡ started_by self.old)) }
         ensures time { now_of self.old ≤ now_of self.new }
         ensures cause { HasCause (faults_by self.old) (faults_by self.new) result }
+        ensures quiet { IfOk result (λ n. faults_by self.new ≡ faults_by self.old) }
         ensures drawn { draws_from self.new ≡ next_state (draws_from self.old) }
         ensures child { IfOk result (λ n. children_of self.new ≡ child_of n (code_drawn (next_draw (draws_from self.old))) ∷ children_of self.old) }
         ensures kept { OnErr result (children_of self.new ≡ children_of self.old) }
@@ -150,9 +153,9 @@ impl Runner for DrawRunner {
         ensures time { WaitTime (now_of self.old) (now_of self.new) limit result }
         ensures same { started_by self.new ≡ started_by self.old }
         ensures faults { WaitFaults (faults_by self.old) (faults_by self.new) result }
+        ensures quiet { faults_by self.new ≡ faults_by self.old }
         ensures ends { WaitOutcome limit self.old self.new result }
         ensures draws { draws_from self.new ≡ draws_from self.old }
-        ensures quiet { faults_by self.new ≡ faults_by self.old }
     {
         match take_least(&mut self.children) {
             Some(LivingChild { number, code }) => {
@@ -174,9 +177,9 @@ impl Runner for DrawRunner {
         ensures lives { living_of self.new ≡ without child (living_of self.old) }
         ensures time { now_of self.old ≤ now_of self.new }
         ensures same { started_by self.new ≡ started_by self.old }
-        ensures faults { faults_by self.old ≤ faults_by self.new }
+        ensures quiet { faults_by self.new ≡ faults_by self.old }
         ensures left { children_of self.new ≡ other_children child (children_of self.old) }
-        ensures rest { (draws_from self.new ≡ draws_from self.old) × (now_of self.new ≡ now_of self.old) × (faults_by self.new ≡ faults_by self.old) }
+        ensures rest { (draws_from self.new ≡ draws_from self.old) × (now_of self.new ≡ now_of self.old) }
     {
         remove_child(&mut self.children, child);
         self.log.note(Seen::Killed(child));
@@ -191,7 +194,7 @@ impl Runner for DrawRunner {
         ensures list { entries_told self.new ≡ entries_told self.old }
         ensures lives { living_of self.new ≡ living_of self.old }
         ensures same { started_by self.new ≡ started_by self.old }
-        ensures faults { faults_by self.old ≤ faults_by self.new }
+        ensures quiet { faults_by self.new ≡ faults_by self.old }
         ensures rest { IsSameWorkload self.old self.new }
     {
         self.log.tell(self.clock);
@@ -204,7 +207,7 @@ impl Runner for DrawRunner {
         ensures lives { living_of self.new ≡ living_of self.old }
         ensures time { now_of self.old ≤ now_of self.new }
         ensures same { started_by self.new ≡ started_by self.old }
-        ensures faults { faults_by self.old ≤ faults_by self.new }
+        ensures quiet { faults_by self.new ≡ faults_by self.old }
         ensures absent { result ≡ false }
         ensures rest { IsSameWorkload self.old self.new }
     {
@@ -218,13 +221,18 @@ impl Runner for DrawRunner {
         ensures lives { living_of self.new ≡ living_of self.old }
         ensures time { now_of self.old ≤ now_of self.new }
         ensures same { started_by self.new ≡ started_by self.old }
-        ensures faults { faults_by self.old ≤ faults_by self.new }
+        ensures quiet { faults_by self.new ≡ faults_by self.old }
         ensures absent { result ≡ false }
         ensures rest { IsSameWorkload self.old self.new }
     {
         self.log.note_absent_program(word);
         false
     }
+
+    fn show<V: View>(&mut self, _view: &V)
+        ensures notes { Listed entries_told moment_asked is_asked self.new ≡ Listed entries_told moment_asked is_asked self.old }
+        ensures rest { IsSameWorkload self.old self.new }
+    {}
 
     ghost past = { λ r. r.past };
 

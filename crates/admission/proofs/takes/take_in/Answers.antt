@@ -6,6 +6,8 @@ use Rattle.records.specs.Stored.{draft_view, item_view, plan_view, Accepted}
 use Rattle.device.specs.Devices.{Device, IsRegularDevice, device_view}
 use Rattle.device.specs.Lawful.{Allowed}
 use Rattle.device.specs.Sound.{IsSound}
+use Rattle.library_core.specs.Library.{Content}
+use Rattle.library_core.proofs.Telling.{stays_still}
 use Rattle.artifact_store.specs.Holding.{HoldsItems}
 use Rattle.artifact_store.specs.Staged.{IsStaged}
 use Rattle.artifact_store.proofs.Walking.{start_spares, wider_spares}
@@ -36,7 +38,7 @@ draft_for-requires-clause-regular g c = subst IsRegularDevice (sym c.device-devi
 
 pub returns-in_err-draft-clause-takes : goal.returns-in_err-draft-clause-takes
 returns-in_err-draft-clause-takes g c = λ o is.
-    let content = g.L.Library.content c.args.library.now in
+    let content = g.L.Library.content c.draft_for.new.library in
     let before = g.L.Library.faults c.args.library.now in
     let after = g.L.Library.faults c.draft_for.new.library in
     subst (λ (d : Device). TakesIn d o content before after c.args.document.now c.from_residual.result) c.device-device.ensures
@@ -82,16 +84,18 @@ stage-requires-clause-keeps g c = c.in_ok-draft.ensures.stages.keeps
 
 pub returns-in_err-plan-clause-takes : goal.returns-in_err-plan-clause-takes
 returns-in_err-plan-clause-takes g c = λ o is.
-    let content = g.L.Library.content c.args.library.now in
+    let content = g.L.Library.content c.draft_for.new.library in
     let before = g.L.Library.faults c.args.library.now in
     let mid = g.L.Library.faults c.draft_for.new.library in
     let after = g.L.Library.faults c.stage.new.library in
-    subst (λ (d : Device). TakesIn d o content before after c.args.document.now c.from_residual-in_err-plan.result) c.device-device.ensures
+    subst (λ (x : Content). TakesIn (idle_device c.args.idle.now) o x before after c.args.document.now c.from_residual-in_err-plan.result)
+    (sym c.stage.ensures.kept.0)
+    (subst (λ (d : Device). TakesIn d o content before after c.args.document.now c.from_residual-in_err-plan.result) c.device-device.ensures
     (unstaged (device_view c.device-device.result.now) o content before mid after c.args.document.now c.in_ok-draft.draft
     (map item_view c.device-device.result.now.set) c.in_err-plan.field-0.0
     c.from_residual-in_err-plan.result c.from_residual-in_err-plan.ensures.1 refl
     (c.in_ok-draft.ensures.proposes o (ap (λ (d : Device). d.origin) c.device-device.ensures ∙ is))
-    (λ l told. c.in_err-plan.ensures.staged l (c.draft_for.ensures.kept ∙ told)))
+    (λ l told. c.in_err-plan.ensures.staged l told)))
 
 pub returns-in_err-plan-clause-moments : goal.returns-in_err-plan-clause-moments
 returns-in_err-plan-clause-moments g c =
@@ -125,7 +129,7 @@ returns-in_err-plan-clause-safe g c = λ holds.
     c.stage.ensures.safe (idle_device c.args.idle.now) (sym (ap (λ (d : Device). d.set) c.device-device.ensures)) c.requires.held.1 holds
 
 pub returns-in_err-plan-clause-kept : goal.returns-in_err-plan-clause-kept
-returns-in_err-plan-clause-kept g c = c.stage.ensures.kept ∙ c.draft_for.ensures.kept
+returns-in_err-plan-clause-kept g c = stays_still c.draft_for.ensures.kept c.stage.ensures.kept.0 c.stage.ensures.kept.1
 
 pub returns-in_err-plan-clause-disk_cause : goal.returns-in_err-plan-clause-disk_cause
 returns-in_err-plan-clause-disk_cause g c = λ failed.
@@ -162,15 +166,16 @@ returns-in_err-plan-clause-library_later g c =
 
 pub returns-clause-takes : goal.returns-clause-takes
 returns-clause-takes g c = λ o is.
-    let content = g.L.Library.content c.args.library.now in
+    let content = g.L.Library.content c.draft_for.new.library in
     let before = g.L.Library.faults c.args.library.now in
     let mid = g.L.Library.faults c.draft_for.new.library in
     let after = g.L.Library.faults c.stage.new.library in
-    subst (λ (d : Device). TakesIn d o content before after c.args.document.now (Ok c.in_ok-plan.plan)) c.device-device.ensures
+    subst (λ (x : Content). TakesIn (idle_device c.args.idle.now) o x before after c.args.document.now (Ok c.in_ok-plan.plan)) (sym c.stage.ensures.kept.0)
+    (subst (λ (d : Device). TakesIn d o content before after c.args.document.now (Ok c.in_ok-plan.plan)) c.device-device.ensures
     (taken (device_view c.device-device.result.now) o content before mid after c.args.document.now c.in_ok-draft.draft
     (map item_view c.device-device.result.now.set) c.in_ok-plan.plan refl
     (c.in_ok-draft.ensures.proposes o (ap (λ (d : Device). d.origin) c.device-device.ensures ∙ is))
-    (record { fills = c.in_ok-plan.ensures.fills; told = λ l told. c.in_ok-plan.ensures.staged l (c.draft_for.ensures.kept ∙ told) }))
+    (record { fills = c.in_ok-plan.ensures.fills; told = λ l told. c.in_ok-plan.ensures.staged l told })))
 
 pub returns-clause-lawful : goal.returns-clause-lawful
 returns-clause-lawful g c = subst (λ (d : Device). Allowed d (Accepted (plan_view c.in_ok-plan.plan))) c.device-device.ensures
@@ -211,7 +216,7 @@ returns-clause-files g c = λ holds.
     c.in_ok-plan.ensures.held (λ image left. subst (HoldsItems image) (sym (ap (λ (d : Device). d.set) c.device-device.ensures)) (holds image left).set)
 
 pub returns-clause-kept : goal.returns-clause-kept
-returns-clause-kept g c = c.stage.ensures.kept ∙ c.draft_for.ensures.kept
+returns-clause-kept g c = stays_still c.draft_for.ensures.kept c.stage.ensures.kept.0 c.stage.ensures.kept.1
 
 pub returns-clause-disk_quiet : goal.returns-clause-disk_quiet
 returns-clause-disk_quiet g c = λ other. c.in_ok-plan.ensures.counts.disk_quiet (λ is. cc is)

@@ -10,6 +10,7 @@ use Rattle.artifact_store.proofs.Copying.{within_room, prefix_none, prefix_next,
 use Rattle.artifact_store.proofs.Copying.{file_step, file_seen}
 use Rattle.artifact_store.proofs.Counting.{counts_good, counts_memory, counts_missing, counts_long, counts_disk, counts_library, counts_after, stages_err}
 use Rattle.artifact_store.proofs.Counting.{outside_of}
+use Rattle.artifact_store.proofs.Walking.{same_artifacts}
 use Rattle.artifact_store.proofs.copies.copy_in.Goals as goal
 
 pub pieces-init : goal.pieces-init
@@ -21,19 +22,20 @@ pieces-init g c = record {
   others = λ told name spared. refl;
   disk_faults = refl;
   content = refl;
+  coming = refl;
   library_faults = refl;
   copied = (
     [],
     c.new-hasher.ensures,
     refl,
     c.requires.empty,
-    λ l e. prefix_none (l.artifact c.args.item.now.name c.args.item.now.version c.args.artifact.now.file),
+    λ l e. prefix_none (l c.args.item.now.name c.args.item.now.version c.args.artifact.now.file),
   );
 }
 
 pub returns-in_err-artifact-clause-copied : goal.returns-in_err-artifact-clause-copied
 returns-in_err-artifact-clause-copied g c = λ l e.
-    let found = l.artifact c.args.item.now.name c.args.item.now.version c.args.artifact.now.file in
+    let found = l c.args.item.now.name c.args.item.now.version c.args.artifact.now.file in
     stages_err (found_lines c.args.target.now None found) (IsDigestOf found) _ _ c.from_residual-in_err-artifact.ensures.1
     (inl (outside_of c.in_err-artifact.field-0.0))
 
@@ -54,9 +56,9 @@ returns-in_err-copy-in-Missing-clause-counts g c =
 pub returns-in-Missing-clause-copied : goal.returns-in-Missing-clause-copied
 returns-in-Missing-clause-copied g c = λ l e.
     let so = c.pieces.invariant in
-    let found = l.artifact c.args.item.now.name c.args.item.now.version c.args.artifact.now.file in
+    let found = l c.args.item.now.name c.args.item.now.version c.args.artifact.now.file in
     copied_missing (IsDigestOf found) found c.args.target.now c.in_ok-copy-in-Missing.field-0 _ _ c.pieces.at c.in_ok-artifact.field-0
-    (c.in_ok-artifact.ensures.told l (so.content ∙ e)) c.in-Missing.is c.in_ok-copy-in-Missing.ensures
+    (c.in_ok-artifact.ensures.told l (same_artifacts so.content e)) c.in-Missing.is c.in_ok-copy-in-Missing.ensures
 
 pub returns-in-Missing-clause-counts : goal.returns-in-Missing-clause-counts
 returns-in-Missing-clause-counts g c =
@@ -71,12 +73,12 @@ returns-in_err-copy-in-Bytes-clause-counts g c =
 pub returns-then-at-count-gt-MOST_BYTES-clause-copied : goal.returns-then-at-count-gt-MOST_BYTES-clause-copied
 returns-then-at-count-gt-MOST_BYTES-clause-copied g c = λ l e.
     let so = c.pieces.invariant in
-    let found = l.artifact c.args.item.now.name c.args.item.now.version c.args.artifact.now.file in
+    let found = l c.args.item.now.name c.args.item.now.version c.args.artifact.now.file in
     let m = so.copied.0 in
     let long : length m ≡ c.pieces.at = so.copied.2 in
     let more : 67108864 < length m + c.in-Bytes.count = omega (arith, long, c.if-at-count-gt-MOST_BYTES.true) in
     copied_long found c.args.target.now c.in_ok-copy-in-Bytes.field-0 m _ _ c.pieces.at c.in-Bytes.count c.in_ok-artifact.field-0
-    (c.in_ok-artifact.ensures.told l (so.content ∙ e)) c.in-Bytes.is long (so.copied.4 l e) more
+    (c.in_ok-artifact.ensures.told l (same_artifacts so.content e)) c.in-Bytes.is long (so.copied.4 l e) more
     c.in_ok-copy-in-Bytes.ensures
 
 pub returns-then-at-count-gt-MOST_BYTES-clause-counts : goal.returns-then-at-count-gt-MOST_BYTES-clause-counts
@@ -127,7 +129,8 @@ pieces-preserved g c =
       others = λ told name spared. file_seen _ _ c.as_str.result.now c.args.target.now _ c.as_str.ensures (c.write_at.ensures.told told) name spared ∙
           so.others told name spared;
       disk_faults = c.in_ok-write_at-in-Bytes.ensures.quiet ∙ so.disk_faults;
-      content = c.artifact.ensures.kept ∙ so.content;
+      content = c.artifact.ensures.kept.0 ∙ so.content;
+      coming = c.artifact.ensures.kept.1 ∙ so.coming;
       library_faults = c.in_ok-artifact.ensures.quiet (λ e. cc e) ∙ so.library_faults;
       copied = (
         m ++ bytes,
@@ -137,9 +140,9 @@ pieces-preserved g c =
             c.as_str.ensures long (so.copied.3 told) (c.in_ok-write_at-in-Bytes.ensures.told told).here ∙ ap (λ (r : List ℕ). m ++ take n r)
             (c.deref-in-Bytes.ensures.value ∙ sym c.deref.ensures.value),
         λ l e.
-            let found = l.artifact c.args.item.now.name c.args.item.now.version c.args.artifact.now.file in
+            let found = l c.args.item.now.name c.args.item.now.version c.args.artifact.now.file in
             subst (λ (r : List ℕ). IsFoundPrefix found (m ++ take n r)) (sym given)
-            (prefix_next found m _ c.artifact.new.into c.pieces.at n c.in_ok-artifact.field-0 (c.in_ok-artifact.ensures.told l (so.content ∙ e)) c.in-Bytes.is
+            (prefix_next found m _ c.artifact.new.into c.pieces.at n c.in_ok-artifact.field-0 (c.in_ok-artifact.ensures.told l (same_artifacts so.content e)) c.in-Bytes.is
             long (so.copied.4 l e)),
       );
     }
@@ -152,12 +155,12 @@ returns-clause-written g c = λ told.
 pub returns-clause-copied : goal.returns-clause-copied
 returns-clause-copied g c = λ l e.
     let so = c.pieces.invariant in
-    let found = l.artifact c.args.item.now.name c.args.item.now.version c.args.artifact.now.file in
+    let found = l c.args.item.now.name c.args.item.now.version c.args.artifact.now.file in
     let m = so.copied.0 in
     let long : length m ≡ c.pieces.at = so.copied.2 in
     let room : 0 < length c.deref_mut.result.now = omega (arith, c.deref_mut.ensures.len, so.room) in
     copied_all found c.args.target.now m _ _ c.finalize.result c.pieces.at c.in-Bytes-eq0.field-0 c.in_ok-artifact.field-0
-    (c.in_ok-artifact.ensures.told l (so.content ∙ e)) c.in-Bytes-eq0.is c.in-Bytes-eq0.field-0-test long
+    (c.in_ok-artifact.ensures.told l (same_artifacts so.content e)) c.in-Bytes-eq0.is c.in-Bytes-eq0.field-0-test long
     (so.copied.4 l e) room (omega (arith, long, so.short)) (c.finalize.ensures m so.copied.1)
 
 pub returns-clause-counts : goal.returns-clause-counts

@@ -2,7 +2,7 @@ use Rattle.std.proofs.Common.{◌≡◌, ◌-◌, ◌≤◌, ℕ, List, IsTrue, 
 use Rattle.sha2.specs.Hashers.{Holds256}
 use Rattle.disk_model.specs.Disk.{HasLeft, IsAfter}
 use Rattle.disk_model.specs.Spares.{IsSameBut, IsFile}
-use Rattle.library_core.specs.Library.{Content}
+use Rattle.library_core.specs.Library.{Artifacts}
 use Rattle.artifact_store.proofs.Copying.{IsFoundPrefix}
 use Rattle.artifact_store.proofs.copies.copy_in.Given as goal
 
@@ -14,9 +14,10 @@ invariant-pieces g l = record {
   others : IsTrue g.D.Disk.is_modelled → IsSameBut (IsFile l.target) (g.D.Disk.seen l.fn.disk) (g.D.Disk.seen l.disk);
   disk_faults : g.D.Disk.faults l.disk ≡ g.D.Disk.faults l.fn.disk;
   content : g.L.Library.content l.library ≡ g.L.Library.content l.fn.library;
+  coming : g.L.Library.coming l.library ≡ g.L.Library.coming l.fn.library;
   library_faults : g.L.Library.faults l.library ≡ g.L.Library.faults l.fn.library;
   copied : (m : List ℕ) × Holds256 l.hasher m × (length m ≡ l.at) × (IsTrue g.D.Disk.is_modelled → g.D.Disk.seen l.disk l.target ≡ m)
-      × ((c : Content) → g.L.Library.content l.fn.library ≡ Some c → IsFoundPrefix (c.artifact l.item.name l.item.version l.artifact.file) m);
+      × ((c : Artifacts) → (g.L.Library.content l.fn.library).artifacts ≡ Some c → IsFoundPrefix (c l.item.name l.item.version l.artifact.file) m);
 }
 
 abbrev pub decreases-pieces : goal.decreases-pieces

@@ -8,6 +8,7 @@ use Rattle.artifact_store.specs.Staged.{found_lines}
 use Rattle.artifact_store.proofs.Copying.{file_step, file_seen, cut_empty, held_digest, given_fault, agreed_staged, agreed_given, agreed_held, agreed_counts}
 use Rattle.artifact_store.proofs.Counting.{counts_memory, counts_disk, counts_handed, counts_after, still_disk, still_library, stages_err, stages_memory}
 use Rattle.artifact_store.proofs.Counting.{stages_disk}
+use Rattle.artifact_store.proofs.Walking.{same_artifacts}
 use Rattle.artifact_store.proofs.copies.stage_file.Goals as goal
 
 pub copy_in-requires : goal.copy_in-requires
@@ -37,7 +38,7 @@ returns-in_err-check_size-clause-moments g c =
 pub returns-in_err-check_size-clause-staged : goal.returns-in_err-check_size-clause-staged
 returns-in_err-check_size-clause-staged g c = λ l e.
     let place = path c.args.item.now.name c.args.item.now.version c.args.artifact.now.file in
-    let found = l.artifact c.args.item.now.name c.args.item.now.version c.args.artifact.now.file in
+    let found = l c.args.item.now.name c.args.item.now.version c.args.artifact.now.file in
     stages_err (found_lines place c.args.artifact.now.digest found) (IsDigestOf found) _ _ c.from_residual-in_err-check_size.ensures.1
     (given_fault found c.in_ok-target.target place c.args.artifact.now.digest _ c.in_ok-target.ensures (c.in_err-check_size.ensures.sized l e))
 
@@ -82,10 +83,10 @@ returns-in_err-digest-clause-others g c = λ told name spared.
 pub returns-in_err-digest-clause-staged : goal.returns-in_err-digest-clause-staged
 returns-in_err-digest-clause-staged g c = λ l e.
     let place = path c.args.item.now.name c.args.item.now.version c.args.artifact.now.file in
-    let found = l.artifact c.args.item.now.name c.args.item.now.version c.args.artifact.now.file in
+    let found = l c.args.item.now.name c.args.item.now.version c.args.artifact.now.file in
     stages_err (found_lines place c.args.artifact.now.digest found) (IsDigestOf found) _ _ c.from_residual-in_err-digest.ensures.1
     (given_fault found c.in_ok-target.target place c.args.artifact.now.digest _ c.in_ok-target.ensures
-    (c.in_err-digest.ensures.copied l (c.check_size.ensures.kept ∙ e)))
+    (c.in_err-digest.ensures.copied l (same_artifacts c.check_size.ensures.kept.0 e)))
 
 pub returns-in_err-digest-clause-counts : goal.returns-in_err-digest-clause-counts
 returns-in_err-digest-clause-counts g c =
@@ -157,9 +158,9 @@ returns-clause-given g c = agreed_given c.args.artifact.now.digest c.in_ok-diges
 pub returns-clause-staged : goal.returns-clause-staged
 returns-clause-staged g c = λ l e.
     let place = path c.args.item.now.name c.args.item.now.version c.args.artifact.now.file in
-    let found = l.artifact c.args.item.now.name c.args.item.now.version c.args.artifact.now.file in
+    let found = l c.args.item.now.name c.args.item.now.version c.args.artifact.now.file in
     agreed_staged found c.in_ok-target.target place c.args.artifact.now.digest c.in_ok-digest.digest c.agreed.result c.in_ok-target.ensures
-    (c.in_ok-digest.ensures.copied l (c.check_size.ensures.kept ∙ e)) c.agreed.ensures.agree c.agreed.ensures.differ
+    (c.in_ok-digest.ensures.copied l (same_artifacts c.check_size.ensures.kept.0 e)) c.agreed.ensures.agree c.agreed.ensures.differ
 
 pub returns-clause-counts : goal.returns-clause-counts
 returns-clause-counts g c =

@@ -15,7 +15,7 @@ use Rattle.artifact_store.specs.Staged.{IsFileOfDraft, artifact_lines}
 use Rattle.artifact_store.proofs.Counting.{counts_good, counts_memory, counts_handed, counts_after, still_disk, still_library, stages_err, stages_memory}
 use Rattle.artifact_store.proofs.Counting.{passes_said}
 use Rattle.artifact_store.proofs.Staging.{Apart, Differ, apart_none, apart_more, differ_of, no_lines}
-use Rattle.artifact_store.proofs.Walking.{next_is, end_is, next_in, start_spares, more_spares, others_more, held_more, held_file, fills_file}
+use Rattle.artifact_store.proofs.Walking.{same_artifacts, next_is, end_is, next_in, start_spares, more_spares, others_more, held_more, held_file, fills_file}
 use Rattle.artifact_store.proofs.stages.stage_files.Goals as goal
 
 pub loop-artifact-init : goal.loop-artifact-init
@@ -27,6 +27,7 @@ loop-artifact-init g c =
       others = λ told name spared. refl;
       disk_faults = refl;
       content = refl;
+      coming = refl;
       library_faults = refl;
       differ = differ_of (map artifact_file c.args.item.now.artifacts) c.requires.differ;
       apart = subst (λ (hs : List Held). Apart (λ (h : Held). h.file) artifact_file hs all) none (apart_none (λ (h : Held). h.file) artifact_file all);
@@ -78,7 +79,7 @@ returns-in_err-digest-clause-staged g c = λ l e.
     let helds : List Held = c.loop-artifact.helds.items in
     let left : IsPass lines Is all (x ∷ drop (i + 1) all) helds = subst (λ (ys : List Artifact). IsPass lines Is all ys helds) next (so.passes l e) in
     stages_err (each lines all) (λ hs. AllZip Is all hs) _ _ c.from_residual.ensures.1
-    (passes_said lines Is all x (drop (i + 1) all) helds c.in_err-digest.field-0.0 left (c.in_err-digest.ensures.staged l (so.content ∙ e)))
+    (passes_said lines Is all x (drop (i + 1) all) helds c.in_err-digest.field-0.0 left (c.in_err-digest.ensures.staged l (same_artifacts so.content e)))
 
 pub returns-in_err-digest-clause-counts : goal.returns-in_err-digest-clause-counts
 returns-in_err-digest-clause-counts g c =
@@ -186,7 +187,8 @@ loop-artifact-preserved g c =
           (g.D.Disk.seen c.loop-artifact.disk) (g.D.Disk.seen c.stage_file.new.disk) (λ name is. (x, next_in all i x _ next, is)) (so.others told)
           (c.stage_file.ensures.others told);
       disk_faults = still_disk _ _ _ _ _ counts ∙ so.disk_faults;
-      content = c.stage_file.ensures.kept ∙ so.content;
+      content = c.stage_file.ensures.kept.0 ∙ so.content;
+      coming = c.stage_file.ensures.kept.1 ∙ so.coming;
       library_faults = still_library _ _ _ _ _ counts ∙ so.library_faults;
       differ = differ.1;
       apart = subst (λ (hs : List Held). Apart (λ (k : Held). k.file) artifact_file hs rest) more
@@ -202,7 +204,7 @@ loop-artifact-preserved g c =
           let lines = artifact_lines l (draft_item_view c.args.item.now) in
           let Is = FillsFile l (draft_item_view c.args.item.now) in
           let left : IsPass lines Is all (x ∷ rest) helds = subst (λ (ys : List Artifact). IsPass lines Is all ys helds) next (so.passes l e) in
-          let said = c.in_ok-digest.ensures.staged l (so.content ∙ e) in
+          let said = c.in_ok-digest.ensures.staged l (same_artifacts so.content e) in
           subst (λ (hs : List Held). IsPass lines Is all rest hs) more
           (passes_more lines Is all x rest helds h left said.0 (fills_file l (draft_item_view c.args.item.now) x h digest c.in_ok-held.ensures.1 said.1));
     }

@@ -14,7 +14,7 @@ use Rattle.artifact_store.specs.Staged.{IsStagedOf, IsStagedAmong, HasItsFiles, 
 use Rattle.artifact_store.proofs.Counting.{counts_good, counts_memory, counts_handed, counts_after, still_disk, still_library, stages_err, stages_memory}
 use Rattle.artifact_store.proofs.Counting.{passes_said}
 use Rattle.artifact_store.proofs.Staging.{Apart, Differ, apart_none, apart_more, heads_apart, push_each, differ_risen, item_named, no_lines}
-use Rattle.artifact_store.proofs.Walking.{start_spares, more_spares, others_more, kept_more, items_more, map_push, none_left, named_as}
+use Rattle.artifact_store.proofs.Walking.{same_artifacts, start_spares, more_spares, others_more, kept_more, items_more, map_push, none_left, named_as}
 use Rattle.artifact_store.proofs.stages.stage_items.Goals as goal
 
 pub loop-draft-init : goal.loop-draft-init
@@ -33,6 +33,7 @@ loop-draft-init g c =
       others = λ told name spared. refl;
       disk_faults = refl;
       content = refl;
+      coming = refl;
       library_faults = refl;
       inside = λ i has. subst (λ (ys : List DraftItem). Contains ys i) (sym whole) has;
       drafted = subst (λ (ys : List DraftItem). AllByRecursion IsNamedDraft ys) whole c.requires.drafted;
@@ -88,7 +89,7 @@ returns-in_err-item-clause-staged g c = λ l e.
     let passes : IsPass (item_lines l kept) (FillsFiles l) all (x ∷ rest) done =
     subst (λ (ys : List DraftItem). IsPass (item_lines l kept) (FillsFiles l) all ys done) left (so.passes l e) in
     stages_err (each (item_lines l kept) all) (λ (is : List code.Item). AllZip (FillsFiles l) all (map item_view is)) _ _ c.from_residual.ensures.1
-    (passes_said (item_lines l kept) (FillsFiles l) all x rest done c.in_err-item.field-0.0 passes (c.in_err-item.ensures.staged l (so.content ∙ e)))
+    (passes_said (item_lines l kept) (FillsFiles l) all x rest done c.in_err-item.field-0.0 passes (c.in_err-item.ensures.staged l (same_artifacts so.content e)))
 
 pub returns-in_err-item-clause-counts : goal.returns-in_err-item-clause-counts
 returns-in_err-item-clause-counts g c =
@@ -160,7 +161,8 @@ loop-draft-preserved g c =
       others = λ told. others_more (IsStagedOf kept x) (IsStagedAmong kept all) (g.D.Disk.seen c.args.disk.now) (g.D.Disk.seen c.loop-draft.disk)
           (g.D.Disk.seen c.stage_item.new.disk) (λ name is. (x, inside, is)) (so.others told) (c.stage_item.ensures.others told);
       disk_faults = still_disk _ _ _ _ _ counts ∙ so.disk_faults;
-      content = c.stage_item.ensures.kept ∙ so.content;
+      content = c.stage_item.ensures.kept.0 ∙ so.content;
+      coming = c.stage_item.ensures.kept.1 ∙ so.coming;
       library_faults = still_library _ _ _ _ _ counts ∙ so.library_faults;
       inside = λ i has. so.inside i (subst (λ (ys : List DraftItem). Contains ys i) (sym left) (in_there x rest i has));
       drafted = drafted.1;
@@ -180,7 +182,7 @@ loop-draft-preserved g c =
       passes = λ l e.
           let passes : IsPass (item_lines l kept) (FillsFiles l) all (x ∷ rest) done =
           subst (λ (ys : List DraftItem). IsPass (item_lines l kept) (FillsFiles l) all ys done) left (so.passes l e) in
-          let said = c.in_ok-item.ensures.staged l (so.content ∙ e) in
+          let said = c.in_ok-item.ensures.staged l (same_artifacts so.content e) in
           subst (λ (ys : List Item). IsPass (item_lines l kept) (FillsFiles l) all rest ys) more
           (passes_more (item_lines l kept) (FillsFiles l) all x rest done made passes said.0 said.1);
     }

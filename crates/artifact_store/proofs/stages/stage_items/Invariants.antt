@@ -4,7 +4,7 @@ use Rattle.std.specs.Vec.Iter.{into_iter_items}
 use Rattle.disk_model.specs.Disk.{HasLeft, IsAfter}
 use Rattle.disk_model.specs.Spares.{IsSameBut}
 use Rattle.nuc_base.specs.Tables.{IsPass}
-use Rattle.library_core.specs.Library.{Content}
+use Rattle.library_core.specs.Library.{Artifacts}
 use Rattle.records.specs.Stored.{DraftItem, item_view, draft_item_view}
 use Rattle.device.specs.Filled.{ItemFilled}
 use Rattle.artifact_store.specs.Filled.{FillsFiles}
@@ -24,6 +24,7 @@ invariant-loop-draft g l = record {
       (g.D.Disk.seen l.disk);
   disk_faults : g.D.Disk.faults l.disk ≡ g.D.Disk.faults l.fn.disk;
   content : g.L.Library.content l.library ≡ g.L.Library.content l.fn.library;
+  coming : g.L.Library.coming l.library ≡ g.L.Library.coming l.fn.library;
   library_faults : g.L.Library.faults l.library ≡ g.L.Library.faults l.fn.library;
   inside : (i : DraftItem) → Contains (map draft_item_view (into_iter_items l.draft-iterator)) i → Contains (map draft_item_view l.fn.drafts) i;
   drafted : AllByRecursion IsNamedDraft (map draft_item_view (into_iter_items l.draft-iterator));
@@ -35,7 +36,7 @@ invariant-loop-draft g l = record {
   kept : AllHoldItems (g.D.Disk.may_leave l.fn.disk) (map item_view l.kept) → AllHoldItems (g.D.Disk.may_leave l.disk) (map item_view l.kept);
   held : AllHoldItems (g.D.Disk.may_leave l.fn.disk) (map item_view l.kept) → AllHoldItems (g.D.Disk.may_leave l.disk) (map item_view l.items.items);
   filled : IsPass no_lines ItemFilled (map draft_item_view l.fn.drafts) (map draft_item_view (into_iter_items l.draft-iterator)) (map item_view l.items.items);
-  passes : (c : Content) → g.L.Library.content l.fn.library ≡ Some c →
+  passes : (c : Artifacts) → (g.L.Library.content l.fn.library).artifacts ≡ Some c →
       IsPass (item_lines c (map item_view l.kept)) (FillsFiles c) (map draft_item_view l.fn.drafts) (map draft_item_view (into_iter_items l.draft-iterator))
       (map item_view l.items.items);
 }

@@ -1,4 +1,4 @@
-use Rattle.std.proofs.Common.{◌∙◌, ℕ, Bool, List, IsTrue, refl, sym, ap, subst}
+use Rattle.std.proofs.Common.{◌∙◌, ℕ, Bool, List, IsTrue, refl, sym, ap, subst, arith}
 use Rattle.gate_log.specs.Place.{place_behind}
 use Rattle.gate_log.specs.Turned.{IsPut}
 use Rattle.device.specs.Devices.{device_view}
@@ -20,6 +20,7 @@ loop-at-init g c =
       end = refl;
       number = refl;
       turns = refl;
+      room = λ told. omega arith;
       others = λ told name other. refl;
       faults = refl;
     }
@@ -44,6 +45,7 @@ loop-at-preserved g c =
       end = c.put_next.ensures.same.0 ∙ was.end;
       number = c.put_next.ensures.same.1 ∙ was.number;
       turns = c.put_next.ensures.same.2 ∙ was.turns;
+      room = λ told. omega (arith, was.room told, done.room told);
       others = λ told name other. c.put_next.ensures.others told name other ∙ was.others told name other;
       faults = done.quiet (λ h. cc) ∙ was.faults;
     }

@@ -39,7 +39,7 @@ returns-clause-driven g c =
     let run = c.run_made_to_end.ensures.call state (open_begun d c.new-supervisor.result told (g.R.Runner.living c.args.runner.now) c.new-supervisor.ensures
     c.requires.none c.requires.held.1) refl in
     let origin = some_of d.origin c.requires.held.0.origin in
-    let content = g.L.Library.content c.args.library.now in
+    let content = g.L.Library.content c.run_made_to_end.new.library in
     let before = g.L.Library.faults c.args.library.now in
     let after = g.L.Library.faults c.run_made_to_end.new.library in
     let takes = made_takes d origin.0 content before after c.args.made run.0 (run.1 origin.0 origin.1) in

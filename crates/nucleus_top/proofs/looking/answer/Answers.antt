@@ -106,3 +106,15 @@ returns-in-Why-clause-alone g c = λ seed asks.
     let words : List (List ℕ) = map string_bytes c.args.words.now.items in
     let was : IsOrder words c.in-Ok._root order.Why = grind (arith, c.in-Ok.ensures, c.in-Ok._root-is, c.in-Ok.order-is, c.in-Why.is) in
     absurd (asks_other c.words_ask_one_thing.ensures words c.in-Ok._root order.Why was (λ s same. cc) seed asks)
+
+pub returns-in-Components-clause-alone : goal.returns-in-Components-clause-alone
+returns-in-Components-clause-alone g c = λ seed asks.
+    let words : List (List ℕ) = map string_bytes c.args.words.now.items in
+    let was : IsOrder words c.in-Ok._root order.Components = grind (arith, c.in-Ok.ensures, c.in-Ok._root-is, c.in-Ok.order-is, c.in-Components.is) in
+    absurd (asks_other c.words_ask_one_thing.ensures words c.in-Ok._root order.Components was (λ s same. cc) seed asks)
+
+pub returns-in-About-clause-alone : goal.returns-in-About-clause-alone
+returns-in-About-clause-alone g c = λ seed asks.
+    let words : List (List ℕ) = map string_bytes c.args.words.now.items in
+    let was : IsOrder words c.in-Ok._root order.About = grind (arith, c.in-Ok.ensures, c.in-Ok._root-is, c.in-Ok.order-is, c.in-About.is) in
+    absurd (asks_other c.words_ask_one_thing.ensures words c.in-Ok._root order.About was (λ s same. cc) seed asks)

@@ -2,7 +2,7 @@ use Rattle.nucleus_top.proofs.Ends.{durable, parts}
 use Rattle.nucleus_top.proofs.looking.look.Goals as goal
 
 pub returns-clause-parts : goal.returns-clause-parts
-returns-clause-parts g c = parts _ _ _ _ _ _ c.words_ask_one_thing.ensures c.answer-answer.result c.answer-answer.ensures.comes c.answer-answer.ensures.quiet
+returns-clause-parts g c = parts _ _ _ _ _ _ _ c.words_ask_one_thing.ensures c.answer-answer.result c.answer-answer.ensures.comes c.answer-answer.ensures.quiet
     c.answer-answer.ensures.still c.tell-status.ensures.is_printed
 
 pub returns-clause-durable : goal.returns-clause-durable

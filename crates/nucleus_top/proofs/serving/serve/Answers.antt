@@ -111,12 +111,10 @@ returns-in-Ok-clause-kept g c = c.serve.ensures.kept
 pub returns-in-Ok-clause-caused : goal.returns-in-Ok-clause-caused
 returns-in-Ok-clause-caused g c =
     let r = c.serve.ensures.caused in
-    let quiet = c.in-Ok.ensures.quiet (λ is. cc) in
     record {
       disk = λ is. let rose : Rose (g.D.Disk.faults c.args.disk.now) (g.D.Disk.faults c.serve.new.disk) =
           omega (arith, r.disk is, c.open_swept.ensures.later) in rose;
       edge = r.edge;
-      quiet_disk = λ other more. r.quiet_disk other more ∙ quiet;
       quiet_edges = r.quiet_edges;
       later = (
         stays_on (g.D.Disk.faults c.args.disk.now) (g.D.Disk.faults c.open_swept.new.disk) (g.D.Disk.faults c.serve.new.disk) c.open_swept.ensures.later
@@ -146,6 +144,12 @@ returns-in-Err-clause-ran g c =
       refl {a = c.args.runner.now},
       refl {a = c.args.library.now},
       refl {a = c.args.inbox.now},
+      (λ other more.
+          let printed : Printed = printed_of g.K.Sink.held g.K.Sink.faults c.args.sink.now c.tell-status.new.sink in
+          let tell = tells printed c.tell-status.result c.in-Err.answer
+          (inl (withheld_first (store_of g.D.Disk.is_modelled g.D.Disk.seen g.D.Disk.faults c.args.disk.now c.open_swept.new.disk) c.in-Err.answer
+          c.in-Err.ensures.answers)) c.tell-status.ensures.is_printed in
+          c.in-Err.ensures.quiet (λ is. tell.quiet other more (cc))),
     )
 
 pub returns-in-Err-clause-caused : goal.returns-in-Err-clause-caused
@@ -157,7 +161,6 @@ returns-in-Err-clause-caused g c =
     record {
       disk = λ is. c.in-Err.ensures.disk (ap Err (tell.disk is));
       edge = λ is. inl (tell.edge is);
-      quiet_disk = λ other more. c.in-Err.ensures.quiet (λ is. tell.quiet other more (cc));
       quiet_edges = λ other. (tell.quiet_sink other, refl);
       later = (
         stays (g.D.Disk.faults c.args.disk.now) (g.D.Disk.faults c.open_swept.new.disk) c.open_swept.ensures.later,

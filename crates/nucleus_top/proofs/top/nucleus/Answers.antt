@@ -5,6 +5,7 @@ use Rattle.command_words.specs.declared.order.Order.TheVariants as orders
 use Rattle.admission.specs.declared.ask.Ask.{Ask}
 use Rattle.nucleus_top.specs.Asked.{AreWordsFor}
 use Rattle.nucleus_top.specs.Drives.{AsksTo, IsDeployed, IsRefusedBefore, MayNotDeploy}
+use Rattle.nucleus_top.specs.Parts.{setting_of}
 use Rattle.nucleus_top.specs.Serving.{IsServed}
 use Rattle.session_serving.specs.Parts.{Outside, outside}
 use Rattle.nucleus_top.specs.declared.asking.Asked.TheVariants as asked
@@ -29,7 +30,8 @@ returns-in-NoMemory-clause-parts g c = λ other.
     let input : Input = input_of g.S.Source.left g.S.Source.faults c.args.source.now c.args.source.now in
     let library : Shelf = shelf_of g.L.Library.content g.L.Library.faults c.args.library.now c.args.library.now in
     let printed : Printed = printed_of g.K.Sink.held g.K.Sink.faults c.args.sink.now c.args.sink.now in
-    unread_parts words store input library printed refl refl refl refl refl c.words_ask_one_thing.ensures (Appends-nil (g.K.Sink.held c.args.sink.now))
+    unread_parts (setting_of c.args.version.now (g.D.Disk.writer c.args.disk.now)) words store input library printed refl refl refl refl refl
+    c.words_ask_one_thing.ensures (Appends-nil (g.K.Sink.held c.args.sink.now))
 
 pub returns-in-NoMemory-clause-moments : goal.returns-in-NoMemory-clause-moments
 returns-in-NoMemory-clause-moments g c = λ other. by_none g.met.D.Disk.laws (map string_bytes c.args.words.now.items) c.args.disk.now c.args.disk.now
@@ -78,7 +80,7 @@ returns-in-NoMemory-clause-driven g c = λ drives.
     let input : Input = input_of g.S.Source.left g.S.Source.faults c.args.source.now c.args.source.now in
     let library : Shelf = shelf_of g.L.Library.content g.L.Library.faults c.args.library.now c.args.library.now in
     let printed : Printed = printed_of g.K.Sink.held g.K.Sink.faults c.args.sink.now c.args.sink.now in
-    unread_drives words store input library printed refl refl refl refl refl
+    unread_drives (setting_of c.args.version.now (g.D.Disk.writer c.args.disk.now)) words store input library printed refl refl refl refl refl
 
 -- ---- deploy
 
@@ -380,13 +382,13 @@ returns-in-NoMemory-clause-serves g c = λ turns asks. inl (
   refl {a = c.args.runner.now},
   refl {a = c.args.library.now},
   refl {a = c.args.inbox.now},
+  λ other more. refl,
 )
 
 pub returns-in-NoMemory-clause-causes : goal.returns-in-NoMemory-clause-causes
 returns-in-NoMemory-clause-causes g c = λ asks. record {
   disk = λ is. cc;
   edge = λ is. cc;
-  quiet_disk = λ other more. refl;
   quiet_edges = λ other. (refl, refl);
   later = (
     stays (g.D.Disk.faults c.args.disk.now) (g.D.Disk.faults c.args.disk.now) (omega arith),

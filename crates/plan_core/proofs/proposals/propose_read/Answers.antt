@@ -1,4 +1,5 @@
 use Rattle.device.specs.Devices.{device_view}
+use Rattle.library_core.proofs.Telling.{stays_same}
 use Rattle.plan_core.proofs.Proposing.{not_read, read_first}
 use Rattle.plan_core.proofs.proposals.propose_read.Goals as goal
 
@@ -10,6 +11,9 @@ returns-in_err-document-clause-proposes g c = λ o is.
 
 pub returns-clause-proposes : goal.returns-clause-proposes
 returns-clause-proposes g c = λ o is.
-    read_first (device_view c.args.device.now) o (g.L.Library.content c.args.library.now) (g.L.Library.faults c.args.library.now)
+    read_first (device_view c.args.device.now) o (g.L.Library.content c.propose.new.library) (g.L.Library.faults c.args.library.now)
     (g.L.Library.faults c.propose.new.library) c.in_ok-document.document
     c.args.bytes.now c.propose.result c.in_ok-document.ensures.exact (c.propose.ensures.proposes o is)
+
+pub returns-in_err-document-clause-kept : goal.returns-in_err-document-clause-kept
+returns-in_err-document-clause-kept g c = stays_same g.L.Library.content g.L.Library.coming c.args.library.now

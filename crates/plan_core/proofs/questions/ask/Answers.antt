@@ -3,6 +3,7 @@ use Rattle.std.specs.Prelude.{Err, Ok, Result}
 use Rattle.records.specs.Stored.{item_view}
 use Rattle.records.specs.declared.record.Origin.{Origin}
 use Rattle.device.specs.Devices.{device_view}
+use Rattle.library_core.proofs.Telling.{stays_same}
 use Rattle.plan_core.specs.Checks.{AreCandidatesOf, facts}
 use Rattle.plan_core.specs.Questions.{QuestionOfDocument}
 use Rattle.plan_core.specs.declared.fault.Refusal.{Refusal}
@@ -26,25 +27,34 @@ candidates-requires-clause-read g c =
 pub returns-in_err-candidates-clause-asks : goal.returns-in_err-candidates-clause-asks
 returns-in_err-candidates-clause-asks g c = λ o is.
     let d = device_view c.args.device.now in
-    let content = g.L.Library.content c.args.library.now in
+    let content = g.L.Library.content c.candidates.new.library in
     let before = g.L.Library.faults c.args.library.now in
     let after = g.L.Library.faults c.candidates.new.library in
     let same : c.in-Some.origin ≡ o = cc in
     let here = not_gathered d c.in-Some.origin content before after c.args.document.now c.in_err-candidates.field-0.0 c.from_residual-in_err-candidates.result
     c.from_residual-in_err-candidates.ensures.1
-    c.in_ok-open.ensures.0 c.in_ok-open.ensures.1 (λ e. c.in_err-candidates.ensures.cause (ap Err e)) c.in_err-candidates.ensures.gathered in
+    c.in_ok-open.ensures.0 c.in_ok-open.ensures.1 (record {
+      cause = λ e. c.in_err-candidates.ensures.cause (ap Err e);
+      told = c.in_err-candidates.ensures.gathered;
+      tells = c.in_err-candidates.ensures.tells;
+    }) in
     subst (λ (p : Origin). QuestionOfDocument d p content before after c.args.document.now c.from_residual-in_err-candidates.result) same here
 
 pub returns-in_err-check_room-clause-asks : goal.returns-in_err-check_room-clause-asks
 returns-in_err-check_room-clause-asks g c = λ o is.
     let d = device_view c.args.device.now in
-    let content = g.L.Library.content c.args.library.now in
+    let content = g.L.Library.content c.candidates.new.library in
     let before = g.L.Library.faults c.args.library.now in
     let after = g.L.Library.faults c.candidates.new.library in
     let cs = c.in_ok-candidates.candidates in
     let same : c.in-Some.origin ≡ o = cc in
     let gathered : AreCandidatesOf (facts d c.in-Some.origin content before after c.args.document.now cs no_draft) =
-    record { gathered = c.in_ok-candidates.ensures.read; kept = c.in_ok-candidates.ensures.kept_bytes; told = c.in_ok-candidates.ensures.gathered } in
+    record {
+      gathered = c.in_ok-candidates.ensures.read;
+      kept = c.in_ok-candidates.ensures.kept_bytes;
+      told = c.in_ok-candidates.ensures.gathered;
+      tells = λ t. c.in_ok-candidates.ensures.tells t (λ e. cc e, λ e. cc e);
+    } in
     let here = no_room d c.in-Some.origin content before after c.args.document.now cs c.in_err-check_room.field-0.0 c.from_residual-in_err-check_room.result
     c.from_residual-in_err-check_room.ensures.1
     c.in_ok-open.ensures.0 c.in_ok-open.ensures.1 gathered c.in_err-check_room.ensures in
@@ -52,20 +62,25 @@ returns-in_err-check_room-clause-asks g c = λ o is.
 
 pub returns-in_err-wanted-clause-asks : goal.returns-in_err-wanted-clause-asks
 returns-in_err-wanted-clause-asks g c = λ o is.
-    unwanted (device_view c.args.device.now) o (g.L.Library.content c.args.library.now) (g.L.Library.faults c.args.library.now)
+    unwanted (device_view c.args.device.now) o (g.L.Library.content c.candidates.new.library) (g.L.Library.faults c.args.library.now)
     (g.L.Library.faults c.candidates.new.library) c.args.document.now c.from_residual-in_err-wanted.result c.from_residual-in_err-wanted.ensures.1
 
 pub returns-clause-asks : goal.returns-clause-asks
 returns-clause-asks g c = λ o is.
     let d = device_view c.args.device.now in
-    let content = g.L.Library.content c.args.library.now in
+    let content = g.L.Library.content c.candidates.new.library in
     let before = g.L.Library.faults c.args.library.now in
     let after = g.L.Library.faults c.candidates.new.library in
     let cs = c.in_ok-candidates.candidates in
     let made : Result Question Refusal = Ok (record { candidates = cs; wanted = c.in_ok-wanted.wanted }) in
     let same : c.in-Some.origin ≡ o = cc in
     let gathered : AreCandidatesOf (facts d c.in-Some.origin content before after c.args.document.now cs no_draft) =
-    record { gathered = c.in_ok-candidates.ensures.read; kept = c.in_ok-candidates.ensures.kept_bytes; told = c.in_ok-candidates.ensures.gathered } in
+    record {
+      gathered = c.in_ok-candidates.ensures.read;
+      kept = c.in_ok-candidates.ensures.kept_bytes;
+      told = c.in_ok-candidates.ensures.gathered;
+      tells = λ t. c.in_ok-candidates.ensures.tells t (λ e. cc e, λ e. cc e);
+    } in
     let here : QuestionOfDocument d c.in-Some.origin content before after c.args.document.now made = (
       cs,
       no_draft,
@@ -76,3 +91,6 @@ returns-clause-asks g c = λ o is.
       ),
     ) in
     subst (λ (p : Origin). QuestionOfDocument d p content before after c.args.document.now made) same here
+
+pub returns-in_err-open-clause-kept : goal.returns-in_err-open-clause-kept
+returns-in_err-open-clause-kept g c = stays_same g.L.Library.content g.L.Library.coming c.args.library.now

@@ -10,7 +10,7 @@ use Rattle.session_rollout.specs.Driven.{generation_left}
 use Rattle.session.specs.Calls.{CloseEnding, SaysEnding}
 use Rattle.session.specs.Endings.{ByDiskFault}
 use Rattle.session.proofs.States.{closed_returned}
-use Rattle.session.proofs.Returning.{came_ends, came_held, generation_by, status_came}
+use Rattle.session.proofs.Returning.{came_anew, came_ends, came_held, came_no_memory, generation_by, standing_anew, status_came}
 use Rattle.session.proofs.Statuses.{closed_no_restart}
 use Rattle.session.proofs.closes.end_closed.Goals as goal
 
@@ -86,3 +86,12 @@ returns-clause-swept g c = λ told is. c.sweep_behind-status.ensures.swept told
 pub returns-clause-ends_call : goal.returns-clause-ends_call
 returns-clause-ends_call g c =
     came_ends c.args.idle c.sweep_behind-status.result c.standing_of.result c.back_or_over.result c.back_or_over.ensures.exact
+
+pub returns-clause-anew : goal.returns-clause-anew
+returns-clause-anew g c =
+    came_anew c.args.idle c.sweep_behind-status.result c.standing_of.result c.back_or_over.result c.back_or_over.ensures.exact
+    (standing_anew c.args.presence c.standing_of.result c.standing_of.ensures)
+
+pub returns-clause-no_memory : goal.returns-clause-no_memory
+returns-clause-no_memory g c =
+    came_no_memory c.args.idle c.sweep_behind-status.result c.standing_of.result c.back_or_over.result c.back_or_over.ensures.exact

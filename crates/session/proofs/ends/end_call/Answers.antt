@@ -8,6 +8,7 @@ use Rattle.session.specs.Endings.{BySinkFault, ByDiskFault}
 use Rattle.session.specs.Parts.{status_of_ran}
 use Rattle.session.proofs.Results.{answers_err, answers_ok, ends_err, ends_ok, err_if, err_on, if_ok, not_edge, ok_if, ok_on, on_err}
 use Rattle.session.proofs.Returning.{edge_ends}
+use Rattle.session.proofs.Statuses.{two_never}
 use Rattle.session.proofs.ends.end_call.Goals as goal
 
 -- ---- it was driven
@@ -123,3 +124,10 @@ returns-in-Err-Disk-clause-ends_call g c = edge_ends c.say_disk.result statuses.
 
 pub returns-in-Err-Output-clause-ends_call : goal.returns-in-Err-Output-clause-ends_call
 returns-in-Err-Output-clause-ends_call g c = inl refl
+
+pub returns-in-Err-Disk-clause-no_memory : goal.returns-in-Err-Disk-clause-no_memory
+returns-in-Err-Disk-clause-no_memory g c = λ is. two_never c.say_disk.result statuses.Disk statuses.Edge statuses.Memory c.say_disk.ensures.answers (λ e. cc)
+    (λ e. cc) is
+
+pub returns-in-Err-Output-clause-no_memory : goal.returns-in-Err-Output-clause-no_memory
+returns-in-Err-Output-clause-no_memory g c = λ is. cc

@@ -181,3 +181,11 @@ returns-in-Restart-clause-ends_call g c = edge_ends c.say_again-status.result st
 pub returns-in-Reboot-clause-ends_call : goal.returns-in-Reboot-clause-ends_call
 returns-in-Reboot-clause-ends_call g c =
     edge_ends c.say_again-status-in-Reboot.result statuses.Reboot c.say_again-status-in-Reboot.ensures.answers (inr refl)
+
+pub returns-in-Restart-clause-no_memory : goal.returns-in-Restart-clause-no_memory
+returns-in-Restart-clause-no_memory g c = λ is. two_never c.say_again-status.result statuses.Restart statuses.Edge statuses.Memory
+    c.say_again-status.ensures.answers (λ e. cc) (λ e. cc) is
+
+pub returns-in-Reboot-clause-no_memory : goal.returns-in-Reboot-clause-no_memory
+returns-in-Reboot-clause-no_memory g c = λ is. two_never c.say_again-status-in-Reboot.result statuses.Reboot statuses.Edge statuses.Memory
+    c.say_again-status-in-Reboot.ensures.answers (λ e. cc) (λ e. cc) is

@@ -8,7 +8,7 @@ use Rattle.session_transitions.proofs.Ended.{killed_ends}
 use Rattle.session.specs.Parts.{RanLeft}
 use Rattle.session.specs.declared.ran.Ran.{Ran}
 use Rattle.session.proofs.States.{returned_may}
-use Rattle.session.proofs.Returning.{came_back, came_over}
+use Rattle.session.proofs.Returning.{came_back, came_over, must_give}
 use Rattle.session.proofs.giving.back_or_over.Goals as goal
 
 -- ---- it gives up
@@ -21,8 +21,8 @@ give_up-requires g c =
       from_state = (q.0, returned_may q.0 (idle_device c.args.idle) (g.S.Supervise.world c.args.supervisor.now) told (g.R.Runner.living c.args.runner.now) q.1);
     }
 
-pub returns-then-gives_up-clause-trace : goal.returns-then-gives_up-clause-trace
-returns-then-gives_up-clause-trace g c = λ p before returned generation.
+pub returns-then-must_end-clause-trace : goal.returns-then-must_end-clause-trace
+returns-then-must_end-clause-trace g c = λ p before returned generation.
     let told = Listed g.R.Runner.list g.R.Runner.told g.R.Runner.asked c.args.runner.now in
     let new = Listed g.R.Runner.list g.R.Runner.told g.R.Runner.asked c.give_up.new.runner in
     let lives = g.R.Runner.living c.give_up.new.runner in
@@ -30,7 +30,7 @@ returns-then-gives_up-clause-trace g c = λ p before returned generation.
     let living = g.R.Runner.living c.args.runner.now in
     let may = returned_may p (idle_device c.args.idle) world told living returned in
     let t = c.give_up.ensures.trace p may in
-    let gives = sym c.gives_up.ensures ∙ c.if-gives_up.true in (
+    let gives = must_give c.args.status c.args.standing (sym c.must_end.ensures ∙ c.if-must_end.true) in (
       t.0,
       t.1,
       t.2,
@@ -38,16 +38,16 @@ returns-then-gives_up-clause-trace g c = λ p before returned generation.
           (killed_ends p (state_after p t.0) world told living c.args.status rose may.0 t.3 t.4 gives (λ kept. returned.quiet.owes_none)),
     )
 
-pub returns-then-gives_up-clause-exact : goal.returns-then-gives_up-clause-exact
-returns-then-gives_up-clause-exact g c =
-    c.give_up.ensures.over ∙ sym (came_over c.args.idle c.args.status c.args.standing (sym c.gives_up.ensures ∙ c.if-gives_up.true))
+pub returns-then-must_end-clause-exact : goal.returns-then-must_end-clause-exact
+returns-then-must_end-clause-exact g c =
+    c.give_up.ensures.over ∙ sym (came_over c.args.idle c.args.status c.args.standing (sym c.must_end.ensures ∙ c.if-must_end.true))
 
 -- ---- it comes back
 
 pub returns-clause-trace : goal.returns-clause-trace
 returns-clause-trace g c = λ p before returned generation.
     let list = g.R.Runner.list c.args.runner.now in
-    ([], acts_none p list list refl, (tt, λ is. refl), λ (rose : Bool). (returned, generation, sym c.gives_up.ensures ∙ c.if-gives_up.false, c.requires.other))
+    ([], acts_none p list list refl, (tt, λ is. refl), λ (rose : Bool). (returned, generation, sym c.must_end.ensures ∙ c.if-must_end.false, c.requires.other))
 
 pub returns-clause-exact : goal.returns-clause-exact
-returns-clause-exact g c = sym (came_back c.args.idle c.args.status c.args.standing (sym c.gives_up.ensures ∙ c.if-gives_up.false))
+returns-clause-exact g c = sym (came_back c.args.idle c.args.status c.args.standing (sym c.must_end.ensures ∙ c.if-must_end.false))

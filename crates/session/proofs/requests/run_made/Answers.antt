@@ -1,11 +1,12 @@
 use Rattle.std.proofs.Common.{List, ◌≡◌, ◌⊎◌, ◌∙◌, inl, inr, refl, sym, ap, subst, arith}
-use Rattle.std.specs.Prelude.{ℕ, Option, Result, Ok, Err, IfOk, IfErr}
+use Rattle.std.specs.Prelude.{ℕ, Result, Ok, Err, IfOk, IfErr}
 use Rattle.disk_model.specs.Disk.{Image}
 use Rattle.disk_model.specs.Listing.{artifacts, IsBelow}
 use Rattle.nuc_base.specs.declared.status.Status.TheVariants as statuses
 use Rattle.device.specs.Devices.{Device}
 use Rattle.device.specs.Standing.{StandsFor}
 use Rattle.library_core.specs.Library.{Content}
+use Rattle.library_core.proofs.Telling.{stays_same}
 use Rattle.records.specs.declared.record.Plan as code
 use Rattle.records.specs.declared.record.Origin.{Origin}
 use Rattle.deployment_doc.specs.Sound.{AreSound}
@@ -26,7 +27,7 @@ use Rattle.session.specs.Endings.{Ending, is_failing}
 use Rattle.session.specs.Parts.{RanLeft, status_of_ran}
 use Rattle.session.specs.declared.ran.Standing.TheVariants as standings
 use Rattle.session.proofs.Ending.{declined_parted, still_files}
-use Rattle.session.proofs.Returning.{came_held, status_came}
+use Rattle.session.proofs.Returning.{came_held, came_unbegun, status_came}
 use Rattle.session.proofs.Faults.{stays_later}
 use Rattle.session.proofs.States.{open_returned}
 use Rattle.session.proofs.Statuses.{declined_disk, declined_library, declined_no_restart, told_is, told_no_restart}
@@ -42,7 +43,7 @@ module _ (made : Result Document Declined) where
   inside_made : (x : Declined) → made ≡ Err x → IfErr made (λ y. IsInside y) → IsInside x
   inside_made x is inside = subst (λ (m : Result Document Declined). IfErr m (λ y. IsInside y)) is inside
 
-  module _ (d : Device) (o : Origin) (content : Option Content) (before after : ℕ) where
+  module _ (d : Device) (o : Origin) (content : Content) (before after : ℕ) where
     takes_document : (document : Document) (taken : Result code.Plan Declined) → made ≡ Ok document → AreSound document.roots
         → TakesIn d o content before after document taken → TakesMade d o content before after made taken
     takes_document document taken is sound takes =
@@ -56,7 +57,7 @@ module _ (made : Result Document Declined) where
 pub returns-in-Ok-clause-call : goal.returns-in-Ok-clause-call
 returns-in-Ok-clause-call g c = λ p opens taking.
     let t = c.run_deployment-ran.ensures.call p opens taking in
-    let content = g.L.Library.content c.args.library.now in
+    let content = g.L.Library.content c.run_deployment-ran.new.library in
     let before = g.L.Library.faults c.args.library.now in
     let after = g.L.Library.faults c.run_deployment-ran.new.library in
     let sound = sound_made c.args.made c.in-Ok.document c.in-Ok.is c.requires.roots in (
@@ -113,13 +114,20 @@ returns-in-Err-clause-call g c = λ p opens taking.
       Err c.in-Err.declined,
       (λ o is. takes_none c.args.made d o (g.L.Library.content c.args.library.now) (g.L.Library.faults c.args.library.now)
           (g.L.Library.faults c.args.library.now) c.in-Err.declined c.in-Err.is),
-      (t.0, t.1),
+      (
+        t.0,
+        t.1,
+        came_unbegun c.args.idle c.say_declined-status.result (records_of t.0.history) ran c.back_or_over.ensures.exact t.2,
+      ),
       (λ holds. still_files g.J.Journal.entries g.J.Journal.files g.met.D.Disk.laws c.args.disk.now p (records_of t.0.history) t.2 stands holds),
       (λ fails. absurd (t.3 fails)),
       (λ failed. absurd ((inside_made c.args.made c.in-Err.declined c.in-Err.is c.requires.inside).0 failed)),
       (λ failed. absurd ((inside_made c.args.made c.in-Err.declined c.in-Err.is c.requires.inside).1 failed)),
       tt,
     )
+
+pub returns-in-Err-clause-kept : goal.returns-in-Err-clause-kept
+returns-in-Err-clause-kept g c = stays_same g.L.Library.content g.L.Library.coming c.args.library.now
 
 pub returns-in-Err-clause-held : goal.returns-in-Err-clause-held
 returns-in-Err-clause-held g c =

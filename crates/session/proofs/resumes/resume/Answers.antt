@@ -1,8 +1,10 @@
+use Rattle.std.specs.Prelude.{Option, is_some}
 use Rattle.std.proofs.Common.{◌≡◌, ◌∙◌, false, inl, inr, refl, sym, ap, subst, arith}
+use Rattle.std.proofs.lemmas.Bool.{false≢true}
 use Rattle.disk_model.specs.Listing.{artifacts, IsBelow}
 use Rattle.nuc_base.specs.declared.status.Status.{Status}
 use Rattle.nuc_base.specs.declared.status.Status.TheVariants as statuses
-use Rattle.device.specs.Devices.{Device}
+use Rattle.device.specs.Devices.{Device, Pending}
 use Rattle.artifact_store.proofs.Walking.{start_spares}
 use Rattle.deploy_state.specs.States.{OwnsLoaded, idle_device, loaded_device}
 use Rattle.deploy_state.specs.declared.state.Loaded.{Loaded}
@@ -120,3 +122,12 @@ resume_pending-requires-clause-pending g c =
 pub returns-in-Idle-clause-ends_call : goal.returns-in-Idle-clause-ends_call
 returns-in-Idle-clause-ends_call g c =
     came_ends c.in-Idle.idle c.say-status.result standings.AsBefore c.back_or_over.result c.back_or_over.ensures.exact
+
+pub returns-in-Idle-clause-anew : goal.returns-in-Idle-clause-anew
+returns-in-Idle-clause-anew g c = λ some.
+    let none = loaded_idle g.D.Disk.is_modelled g.D.Disk.may_leave g.J.Journal.stands g.J.Journal.end c.args.state _ c.args.disk.now c.in-Idle.is
+    c.requires.held in
+    absurd (false≢true (sym (ap (λ (o : Option Pending). is_some o) none) ∙ some))
+
+pub returns-in_default-clause-anew : goal.returns-in_default-clause-anew
+returns-in_default-clause-anew g c = λ some. c.resume_pending.ensures.anew

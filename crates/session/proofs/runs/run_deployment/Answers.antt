@@ -1,9 +1,9 @@
-use Rattle.std.proofs.Common.{◌≡◌, ◌⊎◌, false, inl, inr, refl, sym, ap, subst, ◌∙◌, arith}
+use Rattle.std.proofs.Common.{◌≡◌, ◌⊎◌, List, false, inl, inr, refl, sym, ap, subst, ◌∙◌, arith}
 use Rattle.std.specs.Prelude.{Result, Ok, Err}
 use Rattle.nuc_base.specs.declared.status.Status.{Status}
 use Rattle.histories.specs.States.{SessionState, state_after}
 use Rattle.disk_model.specs.Disk.{Image}
-use Rattle.records.specs.Stored.{plan_view}
+use Rattle.records.specs.Stored.{Record, plan_view}
 use Rattle.records.specs.declared.record.Plan as code
 use Rattle.nuc_base.specs.declared.status.Status.TheVariants as statuses
 use Rattle.device.specs.Devices.{Device}
@@ -19,13 +19,14 @@ use Rattle.admission.specs.declared.fault.Declined.{Declined}
 use Rattle.session.specs.Documents.{IsPutOff}
 use Rattle.session.specs.Endings.{Ending, ByDiskFault, WantBefore, is_failing}
 use Rattle.session.specs.Declines.{status_of_declined}
-use Rattle.session.specs.Parts.{RanLeft, status_of_ran}
+use Rattle.session.specs.Parts.{CameBy, RanLeft, status_of_ran}
 use Rattle.session.specs.declared.ran.Standing.TheVariants as standings
-use Rattle.session.proofs.Ending.{declined_parted, nothing_parted, quits_left, taken_behind}
-use Rattle.session.proofs.Returning.{came_ends, came_held, over_ends, over_never, over_status, status_came}
+use Rattle.session.proofs.Distinct.{differs, memory_disk, memory_edge, memory_library, starves_fails}
+use Rattle.session.proofs.Ending.{declined_parted, nothing_parted, taken_behind}
+use Rattle.session.proofs.Returning.{came_ends, came_held, came_unbegun, came_no_memory, status_came}
 use Rattle.session.proofs.Faults.{rose_on, stays_later, stays_on}
 use Rattle.session.proofs.Holding.{taken_both, taken_whole}
-use Rattle.session.proofs.States.{open_returned, returned_may}
+use Rattle.session.proofs.States.{open_returned}
 use Rattle.session.proofs.Printing.{starved_prints}
 use Rattle.session.proofs.Statuses.{told_no_restart, declined_no_restart, declined_disk, declined_library, disk_declined, library_declined, told_is, told_said}
 use Rattle.session.proofs.Sweeping.{declined_sweeps, never_closes}
@@ -69,9 +70,13 @@ returns-in-Err-clause-call g c = λ p opens taking.
     (ap (λ (e : Device). e.pending) opens.stands.device_is ∙ c.requires.held.1)
     c.say_declined-status.ensures.says (λ ending. k.3 (is_failing ending)) in (
       Err c.in-Err.declined,
-      (λ o is. subst (λ (r : Result code.Plan Declined). TakesIn d o (g.L.Library.content c.args.library.now) (g.L.Library.faults c.args.library.now)
+      (λ o is. subst (λ (r : Result code.Plan Declined). TakesIn d o (g.L.Library.content c.take_in.new.library) (g.L.Library.faults c.args.library.now)
           (g.L.Library.faults c.take_in.new.library) c.args.document.now r) c.in-Err.is (c.take_in.ensures.takes o is)),
-      (t.0, t.1),
+      (
+        t.0,
+        t.1,
+        came_unbegun c.args.idle c.say_declined-status.result (records_of t.0.history) ran c.back_or_over.ensures.exact t.2,
+      ),
       (λ holds. taken_whole g.met.D.Disk.laws g.J.Journal.files g.J.Journal.entries c.requires.apart g.met.J.Journal.laws c.args.idle.log c.args.disk.now
           c.take_in.new.disk d p opens.stands.device_is c.requires.held.0 c.take_in.ensures.moments c.take_in.ensures.safe holds (records_of t.0.history)),
       (λ fails. absurd (t.3 fails)),
@@ -155,7 +160,7 @@ returns-in-Ok-ready_for-clause-call g c = λ p opens taking.
     let world = g.S.Supervise.world c.run_plan.new.supervisor in
     let leaves : Ending → SessionState → Type 0 =
     λ ending q. RanLeft p.generation ran (is_failing ending) q world end (g.R.Runner.living c.run_plan.new.runner) in
-    let t = taken_behind g.J.Journal.entries g.J.Journal.files g.met.D.Disk.laws
+    let t = taken_behind g.J.Journal.entries g.J.Journal.files g.met.D.Disk.laws (λ (records : List Record). CameBy ran records)
     (start_of g.J.Journal.end g.J.Journal.number g.J.Journal.turns (idle_log c.args.idle) (idle_device c.args.idle)) c.args.disk.now c.take_in.new.disk
     c.run_plan.new.disk (g.R.Runner.list c.args.runner.now) (g.R.Runner.list c.run_plan.new.runner)
     (g.K.Sink.held c.args.sink.now) (g.K.Sink.held c.run_plan.new.sink) p (status_of_ran ran) leaves (idle_device c.args.idle) c.in-Ok.plan
@@ -168,7 +173,7 @@ returns-in-Ok-ready_for-clause-call g c = λ p opens taking.
     (c.run_plan.ensures.call p opens taking)
     (rose_on (g.D.Disk.faults c.args.disk.now) (g.D.Disk.faults c.take_in.new.disk) (g.D.Disk.faults c.run_plan.new.disk) c.take_in.ensures.disk_later) in (
       Ok c.in-Ok.plan,
-      (λ o is. subst (λ (r : Result code.Plan Declined). TakesIn (idle_device c.args.idle) o (g.L.Library.content c.args.library.now)
+      (λ o is. subst (λ (r : Result code.Plan Declined). TakesIn (idle_device c.args.idle) o (g.L.Library.content c.take_in.new.library)
           (g.L.Library.faults c.args.library.now) (g.L.Library.faults c.take_in.new.library) c.args.document.now r) c.in-Ok.is (c.take_in.ensures.takes o is)),
       t.0,
       t.1,
@@ -204,22 +209,17 @@ returns-in-Ok-ready_for-clause-later g c = (
 
 -- ---- there is no memory for it
 
-fed_fails : WantBefore ≡ ByDiskFault → ⊥
-fed_fails is = cc
+pub back_or_over-requires-in-Err-ready_for-clause-other : goal.back_or_over-requires-in-Err-ready_for-clause-other
+back_or_over-requires-in-Err-ready_for-clause-other g c = refl
 
-pub give_up-requires : goal.give_up-requires
-give_up-requires g c =
+pub back_or_over-requires-in-Err-ready_for-clause-from_state : goal.back_or_over-requires-in-Err-ready_for-clause-from_state
+back_or_over-requires-in-Err-ready_for-clause-from_state g c =
     let q = c.requires.from_state in
-    let world = g.S.Supervise.world c.args.supervisor.now in
-    let told = Listed g.R.Runner.list g.R.Runner.told g.R.Runner.asked c.args.runner.now in
-    let living = g.R.Runner.living c.args.runner.now in
-    record {
-      from_state = (
-        q.0,
-        returned_may q.0 (idle_device c.args.idle) world told living
-            (open_returned q.0 (idle_device c.args.idle) world told living q.1 c.requires.orderly c.requires.held.1),
-      );
-    }
+    let told = Listed g.R.Runner.list g.R.Runner.told g.R.Runner.asked c.args.runner.now in (
+      q.0,
+      open_returned q.0 (idle_device c.args.idle) (g.S.Supervise.world c.args.supervisor.now) told (g.R.Runner.living c.args.runner.now) q.1
+          c.requires.orderly c.requires.held.1,
+    )
 
 pub returns-in-Err-ready_for-clause-call : goal.returns-in-Err-ready_for-clause-call
 returns-in-Err-ready_for-clause-call g c = λ p opens taking.
@@ -227,41 +227,57 @@ returns-in-Err-ready_for-clause-call g c = λ p opens taking.
     let world = g.S.Supervise.world c.args.supervisor.now in
     let told = Listed g.R.Runner.list g.R.Runner.told g.R.Runner.asked c.args.runner.now in
     let living = g.R.Runner.living c.args.runner.now in
-    let end = Listed g.R.Runner.list g.R.Runner.told g.R.Runner.asked c.give_up.new.runner in
-    let lives = g.R.Runner.living c.give_up.new.runner in
-    let ran = c.give_up.result in
+    let end = Listed g.R.Runner.list g.R.Runner.told g.R.Runner.asked c.back_or_over-in-Err-ready_for.new.runner in
+    let lives = g.R.Runner.living c.back_or_over-in-Err-ready_for.new.runner in
+    let ran = c.back_or_over-in-Err-ready_for.result in
+    let exact = c.back_or_over-in-Err-ready_for.ensures.exact in
     let leaves : Ending → SessionState → Type 0 = λ ending q. RanLeft p.generation ran (is_failing ending) q world end lives in
-    let returned = open_returned p d world told living opens c.requires.orderly c.requires.held.1 in
-    let may = returned_may p d world told living returned in
-    let k = c.give_up.ensures.trace p may in
+    let k = c.back_or_over-in-Err-ready_for.ensures.trace p p.generation (open_returned p d world told living opens c.requires.orderly c.requires.held.1) refl in
     let stands : (i : Image) → g.D.Disk.may_leave c.take_in.new.disk i → StandsFor g.J.Journal.entries i p.device =
     λ i left. subst (λ (e : Device). StandsFor g.J.Journal.entries i e) (sym opens.stands.device_is)
     (in_hand_stands g.met.D.Disk.laws g.met.J.Journal.laws c.args.idle.log c.take_in.new.disk d c.take_in.ensures.held.0 i left) in
     let held = g.K.Sink.held c.args.sink.now in
     let start = start_of g.J.Journal.end g.J.Journal.number g.J.Journal.turns (idle_log c.args.idle) (idle_device c.args.idle) in
     let call = nothing_parted g.J.Journal.entries g.J.Journal.files g.met.D.Disk.laws c.args.disk.now c.take_in.new.disk told.list end.list held held p
-    (status_of_ran ran) statuses.Memory (over_status statuses.Memory ran c.give_up.ensures.over) leaves WantBefore k.0
+    (status_of_ran ran) statuses.Memory (status_came c.args.idle statuses.Memory standings.AsBefore ran exact) leaves WantBefore k.0
     c.take_in.ensures.moments
     stands k.1 k.2
     (inl refl)
     (starved_prints _ held held p.device statuses.Memory stands refl)
     k.2
-    (quits_left p p.generation world told living world end lives statuses.Memory ran false k.0 c.give_up.ensures.over may.0 k.3 k.4 refl
-    (λ kept. returned.quiet.owes_none)) in (
+    (k.3 false) in (
       Ok c.in-Ok.plan,
-      (λ o is. subst (λ (r : Result code.Plan Declined). TakesIn d o (g.L.Library.content c.args.library.now) (g.L.Library.faults c.args.library.now)
+      (λ o is. subst (λ (r : Result code.Plan Declined). TakesIn d o (g.L.Library.content c.take_in.new.library) (g.L.Library.faults c.args.library.now)
           (g.L.Library.faults c.take_in.new.library) c.args.document.now r) c.in-Ok.is (c.take_in.ensures.takes o is)),
-      (call.0, inl (subst (λ (e : Ending). IsPutOff start (plan_view c.in-Ok.plan) e) (sym call.1) tt, call.2)),
+      (
+        call.0,
+        inl (subst (λ (e : Ending). IsPutOff start (plan_view c.in-Ok.plan) e) (sym call.1) tt, call.2),
+        came_unbegun c.args.idle statuses.Memory (records_of call.0.history) ran exact call.2,
+      ),
       (λ holds. taken_whole g.met.D.Disk.laws g.J.Journal.files g.J.Journal.entries c.requires.apart g.met.J.Journal.laws c.args.idle.log c.args.disk.now
           c.take_in.new.disk d p opens.stands.device_is c.requires.held.0 c.take_in.ensures.moments c.take_in.ensures.safe holds (records_of call.0.history)),
-      (λ fails. absurd (fed_fails (sym call.1 ∙ fails))),
+      (λ fails. absurd (differs call.0.ending WantBefore ByDiskFault call.1 starves_fails fails)),
       (λ failed. absurd failed),
       (λ failed. absurd failed),
       inl call.2,
     )
 
-pub returns-in-Err-ready_for-clause-drives : goal.returns-in-Err-ready_for-clause-drives
-returns-in-Err-ready_for-clause-drives g c = λ back. absurd (over_never statuses.Memory c.give_up.result c.give_up.ensures.over back)
+pub returns-in-Err-ready_for-clause-held : goal.returns-in-Err-ready_for-clause-held
+returns-in-Err-ready_for-clause-held g c =
+    came_held c.args.idle statuses.Memory standings.AsBefore g.D.Disk.is_modelled g.D.Disk.may_leave g.J.Journal.stands g.J.Journal.end
+    c.take_in.new.disk c.back_or_over-in-Err-ready_for.result c.back_or_over-in-Err-ready_for.ensures.exact c.take_in.ensures.held
+
+pub returns-in-Err-ready_for-clause-disk : goal.returns-in-Err-ready_for-clause-disk
+returns-in-Err-ready_for-clause-disk g c = λ is. absurd (memory_disk (sym (status_came c.args.idle statuses.Memory standings.AsBefore
+    c.back_or_over-in-Err-ready_for.result c.back_or_over-in-Err-ready_for.ensures.exact) ∙ is))
+
+pub returns-in-Err-ready_for-clause-edge : goal.returns-in-Err-ready_for-clause-edge
+returns-in-Err-ready_for-clause-edge g c = λ is. absurd (memory_edge (sym (status_came c.args.idle statuses.Memory standings.AsBefore
+    c.back_or_over-in-Err-ready_for.result c.back_or_over-in-Err-ready_for.ensures.exact) ∙ is))
+
+pub returns-in-Err-ready_for-clause-library : goal.returns-in-Err-ready_for-clause-library
+returns-in-Err-ready_for-clause-library g c = λ is. absurd (memory_library (sym (status_came c.args.idle statuses.Memory standings.AsBefore
+    c.back_or_over-in-Err-ready_for.result c.back_or_over-in-Err-ready_for.ensures.exact) ∙ is))
 
 pub returns-in-Err-ready_for-clause-others : goal.returns-in-Err-ready_for-clause-others
 returns-in-Err-ready_for-clause-others g c = λ told name apart below. c.take_in.ensures.others told name below
@@ -293,8 +309,11 @@ pub returns-in-Ok-ready_for-clause-swept : goal.returns-in-Ok-ready_for-clause-s
 returns-in-Ok-ready_for-clause-swept g c = λ clean. c.run_plan.ensures.swept
 
 pub returns-in-Err-ready_for-clause-swept : goal.returns-in-Err-ready_for-clause-swept
-returns-in-Err-ready_for-clause-swept g c = λ clean. never_closes g.D.Disk.is_modelled g.J.Journal.entries (status_of_ran c.give_up.result)
-    statuses.Memory (g.D.Disk.seen c.take_in.new.disk) refl (inl (over_status statuses.Memory c.give_up.result c.give_up.ensures.over))
+returns-in-Err-ready_for-clause-swept g c = λ clean.
+    never_closes g.D.Disk.is_modelled g.J.Journal.entries (status_of_ran c.back_or_over-in-Err-ready_for.result) statuses.Memory
+    (g.D.Disk.seen c.take_in.new.disk) refl
+    (inl (status_came c.args.idle statuses.Memory standings.AsBefore c.back_or_over-in-Err-ready_for.result
+    c.back_or_over-in-Err-ready_for.ensures.exact))
 
 -- ---- with which status the call ends
 
@@ -303,4 +322,13 @@ returns-in-Err-clause-ends_call g c =
     came_ends c.args.idle c.say_declined-status.result standings.AsBefore c.back_or_over.result c.back_or_over.ensures.exact
 
 pub returns-in-Err-ready_for-clause-ends_call : goal.returns-in-Err-ready_for-clause-ends_call
-returns-in-Err-ready_for-clause-ends_call g c = over_ends statuses.Memory c.give_up.result c.give_up.ensures.over (inl refl)
+returns-in-Err-ready_for-clause-ends_call g c =
+    came_ends c.args.idle statuses.Memory standings.AsBefore c.back_or_over-in-Err-ready_for.result c.back_or_over-in-Err-ready_for.ensures.exact
+
+pub returns-in-Err-clause-no_memory : goal.returns-in-Err-clause-no_memory
+returns-in-Err-clause-no_memory g c =
+    came_no_memory c.args.idle c.say_declined-status.result standings.AsBefore c.back_or_over.result c.back_or_over.ensures.exact
+
+pub returns-in-Err-ready_for-clause-no_memory : goal.returns-in-Err-ready_for-clause-no_memory
+returns-in-Err-ready_for-clause-no_memory g c =
+    came_no_memory c.args.idle statuses.Memory standings.AsBefore c.back_or_over-in-Err-ready_for.result c.back_or_over-in-Err-ready_for.ensures.exact

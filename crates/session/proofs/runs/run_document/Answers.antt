@@ -5,6 +5,7 @@ use Rattle.disk_model.specs.Listing.{artifacts, IsBelow}
 use Rattle.nuc_base.specs.declared.status.Status.TheVariants as statuses
 use Rattle.device.specs.Devices.{Device}
 use Rattle.device.specs.Standing.{StandsFor}
+use Rattle.library_core.proofs.Telling.{stays_same}
 use Rattle.plan_core.specs.declared.fault.Refusal.{Refusal}
 use Rattle.plan_core.specs.Checks.{document_refusal}
 use Rattle.refusal_lines.specs.Lines.{refusal_line}
@@ -23,7 +24,7 @@ use Rattle.session.specs.Endings.{Ending, is_failing}
 use Rattle.session.specs.Parts.{RanLeft, status_of_ran}
 use Rattle.session.specs.declared.ran.Standing.TheVariants as standings
 use Rattle.session.proofs.Ending.{declined_parted, still_files}
-use Rattle.session.proofs.Returning.{came_ends, came_held, status_came}
+use Rattle.session.proofs.Returning.{came_ends, came_held, came_unbegun, came_no_memory, status_came}
 use Rattle.session.proofs.Taken.{unread_taken}
 use Rattle.session.proofs.Faults.{stays_later}
 use Rattle.session.proofs.States.{open_returned}
@@ -71,13 +72,20 @@ returns-in-Err-clause-call g c = λ p opens taking.
       Err declined,
       (λ o is. unread_taken d o (g.L.Library.content c.args.library.now) (g.L.Library.faults c.args.library.now) (g.L.Library.faults c.args.library.now)
           c.args.document.now c.in-Err.fault c.in-Err.ensures.exact),
-      (t.0, t.1),
+      (
+        t.0,
+        t.1,
+        came_unbegun c.args.idle c.say_refusal-status.result (records_of t.0.history) ran c.back_or_over.ensures.exact t.2,
+      ),
       (λ holds. still_files g.J.Journal.entries g.J.Journal.files g.met.D.Disk.laws c.args.disk.now p (records_of t.0.history) t.2 stands holds),
       (λ fails. absurd (t.3 fails)),
       (λ failed. absurd failed),
       (λ failed. absurd (unread_library c.in-Err.fault (ap status_of_refusal failed))),
       tt,
     )
+
+pub returns-in-Err-clause-kept : goal.returns-in-Err-clause-kept
+returns-in-Err-clause-kept g c = stays_same g.L.Library.content g.L.Library.coming c.args.library.now
 
 pub returns-in-Err-clause-held : goal.returns-in-Err-clause-held
 returns-in-Err-clause-held g c =
@@ -140,3 +148,7 @@ returns-in-Err-clause-swept g c =
 pub returns-in-Err-clause-ends_call : goal.returns-in-Err-clause-ends_call
 returns-in-Err-clause-ends_call g c =
     came_ends c.args.idle c.say_refusal-status.result standings.AsBefore c.back_or_over.result c.back_or_over.ensures.exact
+
+pub returns-in-Err-clause-no_memory : goal.returns-in-Err-clause-no_memory
+returns-in-Err-clause-no_memory g c =
+    came_no_memory c.args.idle c.say_refusal-status.result standings.AsBefore c.back_or_over.result c.back_or_over.ensures.exact

@@ -3,6 +3,7 @@ use Rattle.step_runner.specs.Entries.{Listed}
 use Rattle.components.specs.Components.{Components}
 use Rattle.histories.specs.States.{leaves}
 use Rattle.session_acts.specs.Runs.{IsAtTurnStart}
+use Rattle.session_acts.proofs.Shows.{are_shown}
 use Rattle.session_acts.proofs.Waiting.{elapsed, ends, owns_world}
 use Rattle.session_acts.proofs.waits.wait.Goals as goal
 
@@ -20,8 +21,8 @@ event-requires-clause-late g c =
 pub returns-in-Ended-clause-trace : goal.returns-in-Ended-clause-trace
 returns-in-Ended-clause-trace g c = λ p ready.
     let old = Listed g.R.Runner.list g.R.Runner.told g.R.Runner.asked c.args.runner.now in
-    let new = Listed g.R.Runner.list g.R.Runner.told g.R.Runner.asked c.wait.new.self in
-    let living = g.R.Runner.living c.wait.new.self in
+    let new = Listed g.R.Runner.list g.R.Runner.told g.R.Runner.asked c.await_end.new.runner in
+    let living = g.R.Runner.living c.await_end.new.runner in
     let e = ends c.orderly_laws.ensures p (g.S.Supervise.world c.args.supervisor.now) old new (g.R.Runner.living c.args.runner.now) living
     c.in-Ended.child c.in-Ended.exit c.args.limit c.args.now ready c.requires.now.0 c.in-Ended.ensures.notes c.in-Ended.ensures.lives.0
     c.in-Ended.ensures.lives.1 in
@@ -37,10 +38,20 @@ returns-in-Ended-clause-waited g c =
 pub returns-in-Elapsed-clause-trace : goal.returns-in-Elapsed-clause-trace
 returns-in-Elapsed-clause-trace g c = λ p ready.
     let old = Listed g.R.Runner.list g.R.Runner.told g.R.Runner.asked c.args.runner.now in
-    let new = Listed g.R.Runner.list g.R.Runner.told g.R.Runner.asked c.wait.new.self in
-    let e = elapsed p (g.S.Supervise.world c.args.supervisor.now) old new (g.R.Runner.living c.args.runner.now) (g.R.Runner.living c.wait.new.self)
+    let new = Listed g.R.Runner.list g.R.Runner.told g.R.Runner.asked c.await_end.new.runner in
+    let e = elapsed p (g.S.Supervise.world c.args.supervisor.now) old new (g.R.Runner.living c.args.runner.now) (g.R.Runner.living c.await_end.new.runner)
     c.args.limit ready c.in-Elapsed.ensures.notes c.in-Elapsed.ensures.lives in
     (e.event, e.once, e.left)
 
 pub returns-in-Elapsed-clause-waited : goal.returns-in-Elapsed-clause-waited
 returns-in-Elapsed-clause-waited g c = inr (refl, c.in-Elapsed.ensures.time.1)
+
+pub returns-in-Ended-clause-shown : goal.returns-in-Ended-clause-shown
+returns-in-Ended-clause-shown g c =
+    are_shown (g.R.Runner.shown c.await_end.new.runner) (g.S.View.components c.args.supervisor.now) (g.S.Supervise.world c.args.supervisor.now)
+    (g.met.S.Supervise.shows c.args.supervisor.now) c.in-Ended.ensures.shown
+
+pub returns-in-Elapsed-clause-shown : goal.returns-in-Elapsed-clause-shown
+returns-in-Elapsed-clause-shown g c =
+    are_shown (g.R.Runner.shown c.await_end.new.runner) (g.S.View.components c.args.supervisor.now) (g.S.Supervise.world c.args.supervisor.now)
+    (g.met.S.Supervise.shows c.args.supervisor.now) c.in-Elapsed.ensures.shown

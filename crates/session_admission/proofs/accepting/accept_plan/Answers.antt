@@ -13,9 +13,9 @@ use Rattle.records.specs.Stored.{Accepted, plan_view}
 use Rattle.histories.specs.TraceEvents.{Recorded}
 use Rattle.session_boots.specs.Lines.{accepted_line}
 use Rattle.session_boots.proofs.Told.{stops_last}
-use Rattle.session_admission.specs.Accepts.{AcceptAnswer, HasTaken, OwnsTaken, IsFullAt, IsFullOrShort, IsTakenOf}
-use Rattle.session_admission.proofs.Opening.{accept_went, line_is, opened_by, refusal_back, refusal_edge, refusal_fails, refusal_fills, refusal_full}
-use Rattle.session_admission.proofs.Opening.{refusal_held, refusal_stops, refusal_taken, sited_at, stopped_answer, stops_refusal}
+use Rattle.session_admission.specs.Accepts.{AcceptAnswer, HasDiskFailed, HasTaken, OwnsTaken, IsFullAt, IsFullOrShort, IsTakenOf}
+use Rattle.session_admission.proofs.Opening.{accept_went, disk_refusal, line_is, opened_by, refusal_back, refusal_disk, refusal_edge, refusal_fails, refusal_fills, refusal_full}
+use Rattle.session_admission.proofs.Opening.{refusal_held, refusal_taken, sited_at, stopped_answer}
 use Rattle.session_admission.proofs.accepting.accept_plan.Goals as goal
 
 -- ---- it is accepted and acknowledged
@@ -87,13 +87,15 @@ returns-in-Err-clause-fills g c = λ far.
     subst (λ (r : AcceptAnswer _). IsFullOrShort r at) (sym c.answer_to.ensures) (refusal_fills c.in-Err.refusal at (c.in-Err.ensures.fills far))
 
 pub returns-in-Err-clause-disk : goal.returns-in-Err-clause-disk
-returns-in-Err-clause-disk g c = λ is. c.in-Err.ensures.cause (refusal_stops c.in-Err.refusal (sym c.answer_to.ensures ∙ is))
+returns-in-Err-clause-disk g c = λ failed.
+    c.in-Err.ensures.cause (refusal_disk c.in-Err.refusal (subst HasDiskFailed c.answer_to.ensures failed))
 
 pub returns-in-Err-clause-edge : goal.returns-in-Err-clause-edge
 returns-in-Err-clause-edge g c = λ is. absurd (refusal_edge c.in-Err.refusal (sym c.answer_to.ensures ∙ is))
 
 pub returns-in-Err-clause-quiet_disk : goal.returns-in-Err-clause-quiet_disk
-returns-in-Err-clause-quiet_disk g c = λ other. c.in-Err.ensures.quiet (λ stopped. other (c.answer_to.ensures ∙ stops_refusal c.in-Err.refusal stopped))
+returns-in-Err-clause-quiet_disk g c = λ other.
+    c.in-Err.ensures.quiet (λ failed. other (subst HasDiskFailed (sym c.answer_to.ensures) (disk_refusal c.in-Err.refusal failed)))
 
 pub returns-in-Err-clause-unmade : goal.returns-in-Err-clause-unmade
 returns-in-Err-clause-unmade g c = λ given. c.in-Err.ensures.unmade

@@ -10,7 +10,7 @@ use Rattle.session_serving.specs.Causes.{IsCaused, observation}
 use Rattle.session_serving.specs.Parts.{outside}
 use Rattle.session_serving.specs.Served.{AreClosed, FinishLeft}
 use Rattle.session_serving.specs.Turns.{UpRan}
-use Rattle.session_serving.proofs.Causing.{back_stays, caused_on, caused_quiet, stays_quietly}
+use Rattle.session_serving.proofs.Causing.{back_stays, caused_on, caused_quiet}
 use Rattle.session_serving.proofs.Closing.{closed_both, finished_closed, halted_memory, served_memory}
 use Rattle.session_serving.proofs.Joining.{goes_both}
 use Rattle.session_serving.proofs.calls.serve.Goals as goal
@@ -98,7 +98,7 @@ returns-in-Back-clause-caused g c =
     let r = c.finish_pending.result in
     let stays = back_stays r (subst (λ (x : Ran _). IsBack x) (sym c.in-Back.is) tt) c.finish_pending.ensures.stays in
     caused_on m files c.serve_set.result old mid new
-    (caused_quiet m files (status_of_ran r) old mid (stays_quietly (status_of_ran r) stays) c.finish_pending.ensures.caused) c.serve_set.ensures.caused
+    (caused_quiet m files (status_of_ran r) old mid stays c.finish_pending.ensures.caused) c.serve_set.ensures.caused
 
 pub returns-in-Over-clause-caused : goal.returns-in-Over-clause-caused
 returns-in-Over-clause-caused g c =

@@ -16,6 +16,7 @@ use Rattle.session_serving.proofs.Causing.{caused_none, memory_quiet}
 use Rattle.session_serving.proofs.Ending.{ended, served_behind}
 use Rattle.session_serving.proofs.Held.{idle_stands}
 use Rattle.session_serving.proofs.Joining.{goes_acts, stands_acts, sure_acts, turns_none}
+use Rattle.session_serving.proofs.Turning.{never_memory}
 use Rattle.session_serving.proofs.calls.serve_set.Goals as goal
 
 pub open_set-requires-clause-from_state : goal.open_set-requires-clause-from_state
@@ -84,7 +85,8 @@ returns-in-Err-clause-served g c = λ p un turns.
           k.1)
           k.1.none (refl, record { answered = refl; waiting = refl; library = refl }) ([], [], refl, Appends-nil held)
           (λ other. Appends-nil held) (λ is. cc) refl
-          (λ none. stands_acts g.D.Disk g.J.Journal g.met.D.Disk.laws disk a b p k.0 stands k.1) tt (λ on. absurd (false≢true on))
+          (λ none. stands_acts g.D.Disk g.J.Journal g.met.D.Disk.laws disk a b p k.0 stands k.1) tt (λ is. absurd (never_memory is)) (λ disk edge. refl)
+          (λ on. absurd (false≢true on))
           (k.2 statuses.Memory false refl),
     )
 

@@ -18,6 +18,7 @@ use Rattle.session_serving.proofs.Causing.{caused_line, caused_none, caused_on, 
 use Rattle.session_serving.proofs.Ending.{ended, over_none, served_over, served_shut}
 use Rattle.session_serving.proofs.Held.{held_on, held_shut, shut_up, turned_up}
 use Rattle.session_serving.proofs.Joining.{goes_acts, stands_acts, sure_acts}
+use Rattle.session_serving.proofs.Turning.{never_memory}
 use Rattle.session_serving.proofs.calls.serve_turns.Goals as goal
 
 none_left : (left gone most all : ℕ) → left + gone ≡ all → gone ≡ most → all ≡ most → left ≡ 0
@@ -71,7 +72,8 @@ returns-then-not-stop_spent-clause-served g c = λ p serving full.
           (sure_acts g.D.Disk g.J.Journal g.met.D.Disk.laws now a b q k.0 l.1.stands k.1) k.1.none
           (refl, record { answered = refl; waiting = refl; library = refl })
           ([], [], refl, Appends-nil held) (λ other. Appends-nil held) (λ is. cc) refl
-          (λ none. stands_acts g.D.Disk g.J.Journal g.met.D.Disk.laws now a b q k.0 l.1.stands k.1) tt (λ on. absurd (false≢true on)) k.2,
+          (λ none. stands_acts g.D.Disk g.J.Journal g.met.D.Disk.laws now a b q k.0 l.1.stands k.1) tt (λ is. absurd (never_memory is)) (λ disk edge. refl)
+          (λ on. absurd (false≢true on)) k.2,
     )
 
 pub returns-else-not-stop_spent-clause-served : goal.returns-else-not-stop_spent-clause-served
@@ -103,7 +105,8 @@ returns-else-not-stop_spent-clause-served g c = λ p serving full.
           (sure_acts g.D.Disk g.J.Journal g.met.D.Disk.laws now a b q k.0 l.1.stands k.1) k.1.none
           (l.2, c.say_ended.ensures.answers, record { answered = refl; waiting = refl; library = refl }, none)
           c.say_ended.ensures.says.0 c.say_ended.ensures.says.1 (λ is. refl) tt
-          (λ all. stands_acts g.D.Disk g.J.Journal g.met.D.Disk.laws now a b q k.0 l.1.stands k.1) tt (λ on. absurd (false≢true on))
+          (λ all. stands_acts g.D.Disk g.J.Journal g.met.D.Disk.laws now a b q k.0 l.1.stands k.1) tt
+          (λ is. absurd (over_other status c.say_ended.ensures.answers is)) (λ disk edge. refl) (λ on. absurd (false≢true on))
           (k.2 status (over_none status c.say_ended.ensures.answers)),
     )
 

@@ -1,5 +1,5 @@
 use Rattle.std.specs.Prelude.{◌++◌, false}
-use Rattle.std.proofs.Common.{◌∙◌, sym, subst}
+use Rattle.std.proofs.Common.{◌∙◌, refl, sym, subst}
 use Rattle.nuc_base.specs.declared.status.Status.TheVariants as statuses
 use Rattle.step_runner.specs.Entries.{Listed}
 use Rattle.histories.specs.Courses.{IsEnd}
@@ -30,7 +30,7 @@ stop_all-requires-clause-from_state g c =
     let world = g.S.Supervise.world c.settle.new.supervisor in
     let living = g.R.Runner.living c.settle.new.runner in
     let k = c.settle.ensures.trace q.0 q.1 q.2 in
-    let s = settled_some q.0 (state_after q.0 k.0) q.1 world told living c.settle.result c.in-Some._now c.in-Some.is k.2 in
+    let s = settled_some q.0 (state_after q.0 k.0) q.1 world told living c.settle.result c.in-Some._settled c.in-Some.is k.2 in
     (state_after q.0 k.0, q.1, spent_stops (state_after q.0 k.0) q.1 world told living s.0 (s.1.turns ∙ q.3))
 
 pub returns-in-Some-clause-stopped : goal.returns-in-Some-clause-stopped
@@ -40,15 +40,15 @@ returns-in-Some-clause-stopped g c = λ yes p d serving none.
     let living = g.R.Runner.living c.settle.new.runner in
     let k = c.settle.ensures.trace p d serving in
     let q = state_after p k.0 in
-    let s = settled_some p q d world told living c.settle.result c.in-Some._now c.in-Some.is k.2 in
+    let s = settled_some p q d world told living c.settle.result c.in-Some._settled c.in-Some.is k.2 in
     let t = c.stop_all.ensures.trace q d (spent_stops q d world told living s.0 (s.1.turns ∙ none)) in (
       t.0 ++ k.0,
       acts_on p k.0 t.0 (g.R.Runner.list c.args.runner.now) (g.R.Runner.list c.settle.new.runner) (g.R.Runner.list c.stop_all.new.runner) k.1 t.1,
       λ status other. subst (λ (x : SessionState). IsEnd x status false) (sym (left-append p t.0 k.0)) (t.2 status other),
     )
 
-pub give_up_at_last-requires : goal.give_up_at_last-requires
-give_up_at_last-requires g c =
+pub give_up_serving-requires : goal.give_up_serving-requires
+give_up_serving-requires g c =
     let q = c.requires.from_state in
     let told = Listed g.R.Runner.list g.R.Runner.told g.R.Runner.asked c.settle.new.runner in
     let world = g.S.Supervise.world c.settle.new.supervisor in
@@ -65,8 +65,8 @@ returns-in-None-clause-killed g c = λ no p d serving.
     let k = c.settle.ensures.trace p d serving in
     let q = state_after p k.0 in
     let s = settled_none p q d world told living c.settle.result c.in-None.is k.2 in
-    let t = c.give_up_at_last.ensures.trace q d s.0 in (
+    let t = c.give_up_serving.ensures.trace q d s.0 in (
       t.0 ++ k.0,
-      acts_on p k.0 t.0 (g.R.Runner.list c.args.runner.now) (g.R.Runner.list c.settle.new.runner) (g.R.Runner.list c.give_up_at_last.new.runner) k.1 t.1,
-      subst (λ (x : SessionState). IsEnd x statuses.Memory false) (sym (left-append p t.0 k.0)) t.2,
+      acts_on p k.0 t.0 (g.R.Runner.list c.args.runner.now) (g.R.Runner.list c.settle.new.runner) (g.R.Runner.list c.give_up_serving.new.runner) k.1 t.1,
+      subst (λ (x : SessionState). IsEnd x statuses.Memory false) (sym (left-append p t.0 k.0)) (t.2 statuses.Memory false refl),
     )

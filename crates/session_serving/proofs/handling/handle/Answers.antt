@@ -14,7 +14,7 @@ use Rattle.session_serving.specs.Documents.{IsDeployedThere}
 use Rattle.session_serving.specs.Parts.{outside}
 use Rattle.session_serving.specs.Turns.{DocumentLeft, UpRan, inbox_line, status_of_turned}
 use Rattle.session_serving.proofs.Again.{again_left, ready_returned}
-use Rattle.session_serving.proofs.Causing.{back_stays, caused_inbox, caused_on, caused_quiet, caused_then, exact_quiet, restart_quiet, stays_quietly}
+use Rattle.session_serving.proofs.Causing.{back_stays, caused_inbox, caused_on, caused_quiet, caused_then, exact_quiet, restart_quiet}
 use Rattle.session_serving.proofs.Doing.{done_fails, done_now, done_over, restart_fails}
 use Rattle.session_serving.proofs.States.{edge_again}
 use Rattle.session_serving.proofs.handling.handle.Goals as goal
@@ -202,7 +202,7 @@ returns-in-Ok-clause-caused g c =
     let stays = back_stays r (subst (λ (x : Ran _). IsBack x) (sym c.in-Back.is) tt) c.deploy_given.ensures.stays in
     caused_then m files (status_of_turned c.stand_again.result) old mid (g.I.Inbox.faults c.done.new.self)
     (exact_quiet c.stand_again.result c.in-Back.idle c.stand_again.ensures.exact)
-    (caused_quiet m files (status_of_ran r) old mid (stays_quietly (status_of_ran r) stays) c.deploy_given.ensures.caused) c.in-Ok.ensures.quiet
+    (caused_quiet m files (status_of_ran r) old mid stays c.deploy_given.ensures.caused) c.in-Ok.ensures.quiet
 
 pub returns-in-Err-clause-caused : goal.returns-in-Err-clause-caused
 returns-in-Err-clause-caused g c =
@@ -214,7 +214,7 @@ returns-in-Err-clause-caused g c =
     let r = c.deploy_given.result in
     let stays = back_stays r (subst (λ (x : Ran _). IsBack x) (sym c.in-Back.is) tt) c.deploy_given.ensures.stays in
     caused_on m files c.say_inbox.result old mid new
-    (caused_quiet m files (status_of_ran r) old mid (stays_quietly (status_of_ran r) stays) c.deploy_given.ensures.caused)
+    (caused_quiet m files (status_of_ran r) old mid stays c.deploy_given.ensures.caused)
     (caused_inbox m files c.say_inbox.result mid (g.K.Sink.faults c.say_inbox.new.sink) (g.I.Inbox.faults c.done.new.self) c.say_inbox.ensures.status
     c.in-Err.ensures.cause.failed c.say_inbox.ensures.later)
 
@@ -235,7 +235,7 @@ returns-in-Ok-done-clause-caused g c =
     let quiet = restart_quiet c.in-Over.status (sym c.asks_restart.ensures ∙ c.if-not-asks_restart.false) in
     let one = subst (λ (x : Ran _). IsCaused m files (status_of_ran x) old mid) c.in-Over.is c.deploy_given.ensures.caused in
     caused_then m files c.in-Over.status old mid (g.I.Inbox.faults c.done-in-Over.new.self) quiet
-    (caused_quiet m files c.in-Over.status old mid quiet one) c.in-Ok-done.ensures.quiet
+    (caused_quiet m files c.in-Over.status old mid quiet.1 one) c.in-Ok-done.ensures.quiet
 
 pub returns-in-Err-done-clause-caused : goal.returns-in-Err-done-clause-caused
 returns-in-Err-done-clause-caused g c =
@@ -247,6 +247,6 @@ returns-in-Err-done-clause-caused g c =
     c.done-in-Over.new.self in
     let quiet = restart_quiet c.in-Over.status (sym c.asks_restart.ensures ∙ c.if-not-asks_restart.false) in
     let one = subst (λ (x : Ran _). IsCaused m files (status_of_ran x) old mid) c.in-Over.is c.deploy_given.ensures.caused in
-    caused_on m files c.say_inbox-in-Err-done.result old mid new (caused_quiet m files c.in-Over.status old mid quiet one)
+    caused_on m files c.say_inbox-in-Err-done.result old mid new (caused_quiet m files c.in-Over.status old mid quiet.1 one)
     (caused_inbox m files c.say_inbox-in-Err-done.result mid (g.K.Sink.faults c.say_inbox-in-Err-done.new.sink) (g.I.Inbox.faults c.done-in-Over.new.self)
     c.say_inbox-in-Err-done.ensures.status c.in-Err-done.ensures.cause.failed c.say_inbox-in-Err-done.ensures.later)

@@ -15,6 +15,7 @@ use Rattle.law_termination.specs.Drives.{AreDriven}
 use Rattle.session_boots.specs.Traces.{ActTrace}
 use Rattle.session_steady.specs.Serves.{IsServing}
 use Rattle.session_transitions.proofs.Standing.{change_standing, drives_standing, standing_of}
+use Rattle.session_serving.specs.Pauses.{IsChangeAlone}
 use Rattle.session_serving.specs.States.{AreUp}
 use Rattle.session_serving.proofs.Entered.{opened}
 use Rattle.session_serving.proofs.Opens.{all_few, changed_uncounted, given_fitted, given_items, given_origin, none_few}
@@ -57,7 +58,7 @@ returns-in-Ok-clause-trace g c = λ p told living unopened.
     let changed = changed_uncounted fitted c.uncounted.result world (g.S.Supervise.world c.change.new.self) c.change.ensures c.uncounted.ensures in
     let orderly = c.changes_keep_order.ensures fitted no_failures true p.world all_few differ unopened.returned.orderly in
     subst (λ (w : Components). (h : List TraceEvent) × ActTrace p h told.list told.list × IsServing (state_after p h) d w told living
-    × ((state_after p h).turns ≡ p.turns)) (sym changed)
+    × ((state_after p h).turns ≡ p.turns) × IsChangeAlone h) (sym changed)
     (opened c.marks_are_least.ensures.first d o (given_origin e d o c.device-device.ensures c.in-Some.is) c.requires.pending fitted made p
     world told living unopened (λ n. c.changes_keep.ensures.owners n fitted no_failures true p.world) orderly)
 

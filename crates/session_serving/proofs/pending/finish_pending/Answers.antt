@@ -20,7 +20,7 @@ use Rattle.session_serving.specs.Causes.{observation}
 use Rattle.session_serving.specs.Parts.{outside}
 use Rattle.session_serving.specs.States.{IsBegun}
 use Rattle.session_serving.proofs.Causing.{caused_none, done_quiet, stays_same}
-use Rattle.session_serving.proofs.Deploying.{ran_course, stays_quiet, stays_ran}
+use Rattle.session_serving.proofs.Deploying.{ran_course, stays_ran}
 use Rattle.session_serving.proofs.Finishing.{begun_alone, begun_deploys, begun_unopened, finish_left, unfinished}
 use Rattle.session_serving.proofs.Held.{idle_stands, origin_of}
 use Rattle.session_serving.proofs.Up.{begun_steady, none_run, none_up, up_ran}
@@ -47,6 +47,9 @@ returns-in-Idle-clause-left g c = λ p turns begun.
           (ap (λ (x : Device). x.pending) b.stage.between.stands.device_is ∙ own) c.in-Idle.idle statuses.Done standings.Nobody world told living
           (begun_unopened p turns d world told living b (orderly_none world c.requires.empty) own),
     )
+
+pub returns-in-Idle-clause-stays : goal.returns-in-Idle-clause-stays
+returns-in-Idle-clause-stays g c = ((λ is. cc), refl)
 
 pub returns-in-Idle-clause-held : goal.returns-in-Idle-clause-held
 returns-in-Idle-clause-held g c = subst (λ (s : Loaded _). OwnsOver g.D.Disk g.J.Journal OwnsLoaded s c.args.disk.now) c.in-Idle.is c.requires.held
@@ -100,8 +103,8 @@ returns-in_default-clause-left g c = λ p turns b.
       part.history,
       finish_left g.D.Disk g.J.Journal g.met.D.Disk.laws g.met.J.Journal.laws c.requires.apart c.requires.own old new p turns d world told living b some
           stands refl
-          r later now lives c.resume.ensures.ends_call part alike t.1 t.3 t.2
-          (stays_quiet (status_of_ran r) old.faults new.faults c.resume.ensures.quiet_disk)
+          r later now lives c.resume.ensures.ends_call (c.resume.ensures.anew some) part alike t.1 t.3 t.2
+          c.resume.ensures.quiet_disk
           (λ s status standing is. idle_stands g.D.Disk g.J.Journal g.met.D.Disk.laws g.met.J.Journal.laws s c.resume.new.disk
           (subst (λ (x : Ran _). OwnsOver g.D.Disk g.J.Journal OwnsRan x c.resume.new.disk) is c.resume.ensures.held) (idle_device s) refl),
     )
@@ -151,7 +154,6 @@ pub returns-in_default-clause-caused : goal.returns-in_default-clause-caused
 returns-in_default-clause-caused g c = record {
   disk = c.resume.ensures.disk;
   edge = λ is. inl (c.resume.ensures.edge is);
-  quiet_disk = c.resume.ensures.quiet_disk;
   quiet_edges = λ edge. (c.resume.ensures.quiet_sink edge, refl);
   later = (c.resume.ensures.later.0, c.resume.ensures.later.1, stays_same (g.I.Inbox.faults c.args.inbox.now));
   library_later = omega arith;

@@ -170,7 +170,7 @@ returns-in-Err-clause-left g c = λ p asking left.
     let t = c.give_up_asking.ensures.trace p d asking in (
       t.0,
       fault_over g.D.Disk g.J.Journal g.met.D.Disk.laws (IsDeployedThere (g.L.Library.content c.args.library.now)) old p stands c.in-Err.fault
-          c.give_up_asking.result new t.0 refl t.1
+          c.give_up_asking.result new t.0 refl refl t.1
           (record { answered = c.in-Err.ensures.uncounted; waiting = c.next.ensures.waiting; library = refl }) c.give_up_asking.ensures.status
           c.give_up_asking.ensures.line
           c.give_up_asking.ensures.whole t.2,

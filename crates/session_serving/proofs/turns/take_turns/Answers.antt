@@ -1,8 +1,7 @@
 use Rattle.std.proofs.Common.{◌≡◌, ◌≤◌, ◌<◌, ◌+◌, ◌++◌, ◌∷◌, [], List, ℕ, length, refl, sym, ap, subst, ◌∙◌, append_assoc, arith}
 use Rattle.std.proofs.lemmas.List.{length_push}
-use Rattle.std.specs.Prelude.{Option}
 use Rattle.nuc_base.specs.declared.status.Status.TheVariants as statuses
-use Rattle.library_core.specs.Library.{Content}
+use Rattle.library_core.proofs.Telling.{stays_same, stays_then}
 use Rattle.deploy_state.specs.States.{idle_device}
 use Rattle.step_runner.specs.Entries.{Listed}
 use Rattle.histories.specs.States.{SessionState, state_after}
@@ -18,6 +17,7 @@ use Rattle.session_serving.proofs.Causing.{caused_none, caused_on, done_quiet}
 use Rattle.session_serving.proofs.Held.{held_on, idle_stands, turned_up}
 use Rattle.session_serving.proofs.Joining.{turns_both, turns_none}
 use Rattle.session_serving.proofs.Rounding.{length_both}
+use Rattle.session_serving.proofs.Telling.{told_before}
 use Rattle.session_serving.proofs.turns.take_turns.Goals as goal
 
 pub turns-init : goal.turns-init
@@ -26,7 +26,7 @@ turns-init g c = record {
   up = c.requires.up;
   caused = caused_none g.D.Disk.is_modelled g.J.Journal.files statuses.Done
       (observation g.D.Disk g.K.Sink g.L.Library g.I.Inbox c.args.disk.now c.args.sink.now c.args.library.now c.args.inbox.now) done_quiet;
-  kept = refl;
+  kept = stays_same g.L.Library.content g.L.Library.coming c.args.library.now;
   left = λ p serving full. (
     [],
     [],
@@ -67,8 +67,8 @@ returns-in-Shut-clause-left g c = λ p serving full.
     (left_over p.turns (state_after p w.0).turns (length w.1) c.args.turns c.turns._turn full w.2.turns w.3 c.turns-test.true) in
     let l = subst (λ (r : _). TurnLeft g.D.Disk g.J.Journal (IsDeployedThere (g.L.Library.content c.args.library.now)) r mid new (state_after p w.0) t.0
     world told living) c.in-Shut.is
-    (subst (λ (k : Option Content). TurnLeft g.D.Disk g.J.Journal (IsDeployedThere k) c.turn.result mid new (state_after p w.0) t.0 world told living)
-    c.turns.invariant.kept t.1) in
+    (told_before g.D.Disk g.J.Journal (g.L.Library.content c.args.library.now) (g.L.Library.content c.turns.library) c.turns.invariant.kept.content
+    c.turn.result mid new (state_after p w.0) t.0 world told living t.1) in
     let below = c.turns-test.true in
     let at = w.3 in (
       t.0 ++ w.0,
@@ -100,8 +100,8 @@ returns-in-Over-clause-left g c = λ p serving full.
     let t = c.turn.ensures.left (state_after p w.0) w.4
     (left_over p.turns (state_after p w.0).turns (length w.1) c.args.turns c.turns._turn full w.2.turns w.3 c.turns-test.true) in
     let l = subst (λ (r : _). TurnLeft g.D.Disk g.J.Journal Clause r mid new (state_after p w.0) t.0 world told living) c.in-Over.is
-    (subst (λ (k : Option Content). TurnLeft g.D.Disk g.J.Journal (IsDeployedThere k) c.turn.result mid new (state_after p w.0) t.0 world told living)
-    c.turns.invariant.kept t.1) in
+    (told_before g.D.Disk g.J.Journal (g.L.Library.content c.args.library.now) (g.L.Library.content c.turns.library) c.turns.invariant.kept.content
+    c.turn.result mid new (state_after p w.0) t.0 world told living t.1) in
     let at = w.3 in
     let below = c.turns-test.true in
     let few = l.9 in
@@ -133,7 +133,7 @@ turns-preserved g c = record {
       (observation g.D.Disk g.K.Sink g.L.Library g.I.Inbox c.turns.disk c.turns.sink c.turns.library c.turns.inbox)
       (observation g.D.Disk g.K.Sink g.L.Library g.I.Inbox c.turn.new.disk c.turn.new.sink c.turn.new.library c.turn.new.inbox)) c.in-On.is
       c.turn.ensures.caused);
-  kept = c.turn.ensures.kept ∙ c.turns.invariant.kept;
+  kept = stays_then c.turns.invariant.kept c.turn.ensures.kept;
   left = λ p serving full.
       let w = c.turns.invariant.left p serving full in
       let old = outside g.D.Disk g.K.Sink g.R.Runner g.L.Library g.I.Inbox c.args.disk.now c.args.sink.now c.args.runner.now c.args.library.now
@@ -148,8 +148,8 @@ turns-preserved g c = record {
       let t = c.turn.ensures.left (state_after p w.0) w.4
       (left_over p.turns (state_after p w.0).turns (length w.1) c.args.turns c.turns._turn full w.2.turns w.3 c.turns-test.true) in
       let l = subst (λ (r : _). TurnLeft g.D.Disk g.J.Journal Clause r mid new (state_after p w.0) t.0 world told living) c.in-On.is
-      (subst (λ (k : Option Content). TurnLeft g.D.Disk g.J.Journal (IsDeployedThere k) c.turn.result mid new (state_after p w.0) t.0 world told living)
-      c.turns.invariant.kept t.1) in
+      (told_before g.D.Disk g.J.Journal (g.L.Library.content c.args.library.now) (g.L.Library.content c.turns.library) c.turns.invariant.kept.content
+      c.turn.result mid new (state_after p w.0) t.0 world told living t.1) in
       let at = w.3 in
       let more = length_push w.1 l.0 in (
         t.0 ++ w.0,

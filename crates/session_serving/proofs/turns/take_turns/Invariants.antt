@@ -1,5 +1,6 @@
 use Rattle.std.proofs.Common.{◌≡◌, List, length}
 use Rattle.nuc_base.specs.declared.status.Status.TheVariants as statuses
+use Rattle.library_core.specs.Library.{StaysTold}
 use Rattle.deploy_state.specs.States.{OwnsIdle, idle_device}
 use Rattle.step_runner.specs.Entries.{Listed}
 use Rattle.histories.specs.States.{SessionState, state_after}
@@ -20,7 +21,7 @@ invariant-turns g l = record {
   caused : IsCaused g.D.Disk.is_modelled g.J.Journal.files statuses.Done
       (observation g.D.Disk g.K.Sink g.L.Library g.I.Inbox l.fn.disk l.fn.sink l.fn.library l.fn.inbox)
       (observation g.D.Disk g.K.Sink g.L.Library g.I.Inbox l.disk l.sink l.library l.inbox);
-  kept : g.L.Library.content l.library ≡ g.L.Library.content l.fn.library;
+  kept : StaysTold g.L.Library.content g.L.Library.coming l.fn.library l.library;
   left : (p : SessionState) → IsServing p (idle_device l.fn.idle) (g.S.Supervise.world l.fn.supervisor)
       (Listed g.R.Runner.list g.R.Runner.told g.R.Runner.asked l.fn.runner) (g.R.Runner.living l.fn.runner) → p.turns ≡ l.fn.turns →
       (h : List TraceEvent) × (rounds : List Round)

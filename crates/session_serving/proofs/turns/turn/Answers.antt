@@ -1,111 +1,82 @@
-use Rattle.std.specs.Prelude.{ℕ, [], false}
-use Rattle.std.proofs.Common.{◌≤◌, ◌++◌, refl, sym, subst}
-use Rattle.nuc_base.specs.declared.status.Status.TheVariants as statuses
-use Rattle.std.proofs.KnownBytes.{Appends-nil}
+use Rattle.std.specs.Prelude.{ℕ}
+use Rattle.std.proofs.Common.{inl, refl, subst, arith}
 use Rattle.deploy_state.specs.States.{idle_device}
-use Rattle.step_runner.specs.Entries.{Listed}
-use Rattle.histories.specs.Courses.{IsEnd}
-use Rattle.histories.specs.States.{SessionState, state_after}
-use Rattle.histories.proofs.Joined.{left-append}
-use Rattle.session_boots.proofs.Acting.{acts_on}
 use Rattle.session_serving.specs.Causes.{observation}
 use Rattle.session_serving.specs.Documents.{IsDeployedThere}
 use Rattle.session_serving.specs.Parts.{outside}
-use Rattle.session_serving.specs.Rounds.{WantOfMemory}
-use Rattle.session_serving.proofs.Causing.{caused_none, memory_quiet}
-use Rattle.session_serving.proofs.Held.{idle_stands}
-use Rattle.session_serving.proofs.Steady.{settled_none, settled_some, up_on}
-use Rattle.session_serving.proofs.Turning.{given_up, over_at, turn_behind}
+use Rattle.session_serving.specs.Turns.{status_of_turned}
+use Rattle.step_runner.specs.Entries.{Listed}
+use Rattle.session_serving.proofs.Causing.{caused_on, done_quiet, stays_same}
+use Rattle.session_serving.proofs.Swept.{held_after, sweep_fails, turn_swept}
 use Rattle.session_serving.proofs.turns.turn.Goals as goal
 
-pub settle-requires-clause-drives : goal.settle-requires-clause-drives
-settle-requires-clause-drives g c = (c.requires.up.drives, c.requires.up.steady)
+-- ---- stray files were swept, or are still to be
 
-pub settle-requires-clause-from_state : goal.settle-requires-clause-from_state
-settle-requires-clause-from_state g c = let q = c.requires.from_state in (q.0, idle_device c.args.idle, q.1)
+pub take_turn-requires-clause-held : goal.take_turn-requires-clause-held
+take_turn-requires-clause-held g c =
+    held_after g.D.Disk g.J.Journal g.met.D.Disk.laws g.met.J.Journal.laws c.requires.apart c.requires.own
+    (IsDeployedThere (g.L.Library.content c.args.library.now)) c.args.idle
+    (outside g.D.Disk g.K.Sink g.R.Runner g.L.Library g.I.Inbox c.args.disk.now c.args.sink.now c.args.runner.now c.args.library.now c.args.inbox.now)
+    c.sweep_owed.new.disk (g.D.Disk.faults c.sweep_owed.new.disk) c.requires.held c.sweep_owed.ensures.spared c.sweep_owed.ensures.safe
 
--- ---- every act was taken
-
-pub ask-requires-clause-now : goal.ask-requires-clause-now
-ask-requires-clause-now g c = c.in-Some.ensures.now
-
-pub ask-requires-clause-up : goal.ask-requires-clause-up
-ask-requires-clause-up g c = up_on (idle_device c.args.idle) (g.S.Supervise.world c.args.supervisor.now) (g.S.Supervise.world c.settle.new.supervisor)
-    c.requires.up c.settle.ensures.stays
-
-pub ask-requires-clause-from_state : goal.ask-requires-clause-from_state
-ask-requires-clause-from_state g c =
-    let q = c.requires.from_state in
-    let d = idle_device c.args.idle in
-    let told = Listed g.R.Runner.list g.R.Runner.told g.R.Runner.asked c.settle.new.runner in
-    let world = g.S.Supervise.world c.settle.new.supervisor in
-    let living = g.R.Runner.living c.settle.new.runner in
-    let k = c.settle.ensures.trace q.0 d q.1 in
-    let s = settled_some q.0 (state_after q.0 k.0) d world told living c.settle.result c.in-Some.now c.in-Some.is k.2 in
-    (state_after q.0 k.0, s.0, subst (λ (n : ℕ). 1 ≤ n) (sym s.1.turns) q.2)
-
-pub returns-in-Some-clause-left : goal.returns-in-Some-clause-left
-returns-in-Some-clause-left g c = λ p serving left.
-    let d = idle_device c.args.idle in
-    let told = Listed g.R.Runner.list g.R.Runner.told g.R.Runner.asked c.settle.new.runner in
-    let world = g.S.Supervise.world c.settle.new.supervisor in
-    let living = g.R.Runner.living c.settle.new.runner in
-    let k = c.settle.ensures.trace p d serving in
-    let q = state_after p k.0 in
-    let s = settled_some p q d world told living c.settle.result c.in-Some.now c.in-Some.is k.2 in
-    let t = c.ask.ensures.left q s.0 (subst (λ (n : ℕ). 1 ≤ n) (sym s.1.turns) left) in
-    let stands = idle_stands g.D.Disk g.J.Journal g.met.D.Disk.laws g.met.J.Journal.laws c.args.idle c.args.disk.now c.requires.held p.device
-    serving.stands.device_is in
+pub returns-in-Ok-clause-left : goal.returns-in-Ok-clause-left
+returns-in-Ok-clause-left g c = λ p serving left.
     let old = outside g.D.Disk g.K.Sink g.R.Runner g.L.Library g.I.Inbox c.args.disk.now c.args.sink.now c.args.runner.now c.args.library.now c.args.inbox.now
     in
-    let new = outside g.D.Disk g.K.Sink g.R.Runner g.L.Library g.I.Inbox c.ask.new.disk c.ask.new.sink c.ask.new.runner c.ask.new.library c.ask.new.inbox in (
-      t.0 ++ k.0,
-      turn_behind g.D.Disk g.J.Journal g.met.D.Disk.laws (IsDeployedThere (g.L.Library.content c.args.library.now)) old p stands
-          (g.R.Runner.list c.settle.new.runner) new k.0 t.0 c.ask.result (g.S.Supervise.world c.ask.new.supervisor)
-          (Listed g.R.Runner.list g.R.Runner.told g.R.Runner.asked c.ask.new.runner) (g.R.Runner.living c.ask.new.runner) k.1 s.1.turns t.1,
+    let new = outside g.D.Disk g.K.Sink g.R.Runner g.L.Library g.I.Inbox c.take_turn.new.disk c.take_turn.new.sink c.take_turn.new.runner
+    c.take_turn.new.library c.take_turn.new.inbox in
+    let t = c.take_turn.ensures.left p serving left in (
+      t.0,
+      turn_swept g.D.Disk g.J.Journal g.met.D.Disk.laws g.met.J.Journal.laws c.requires.apart c.requires.own
+          (IsDeployedThere (g.L.Library.content c.args.library.now)) c.args.idle old c.sweep_owed.new.disk (g.D.Disk.faults c.sweep_owed.new.disk)
+          c.requires.held c.sweep_owed.ensures.spared c.sweep_owed.ensures.safe p serving.stands.device_is new t.0 c.take_turn.result
+          (g.S.Supervise.world c.take_turn.new.supervisor) (Listed g.R.Runner.list g.R.Runner.told g.R.Runner.asked c.take_turn.new.runner)
+          (g.R.Runner.living c.take_turn.new.runner) c.in-Ok.ensures.quiet t.1,
     )
 
--- ---- the clock stands at its end
+pub returns-in-Ok-clause-caused : goal.returns-in-Ok-clause-caused
+returns-in-Ok-clause-caused g c =
+    let later = c.sweep_owed.ensures.later in
+    caused_on g.D.Disk.is_modelled g.J.Journal.files (status_of_turned c.take_turn.result)
+    (observation g.D.Disk g.K.Sink g.L.Library g.I.Inbox c.args.disk.now c.args.sink.now c.args.library.now c.args.inbox.now)
+    (observation g.D.Disk g.K.Sink g.L.Library g.I.Inbox c.sweep_owed.new.disk c.args.sink.now c.args.library.now c.args.inbox.now)
+    (observation g.D.Disk g.K.Sink g.L.Library g.I.Inbox c.take_turn.new.disk c.take_turn.new.sink c.take_turn.new.library c.take_turn.new.inbox)
+    (record {
+      disk = λ is. absurd (done_quiet.0 is);
+      edge = λ is. absurd (done_quiet.1 is);
+      quiet_edges = λ edge. (refl, refl);
+      later = (omega (arith, later), stays_same (g.K.Sink.faults c.args.sink.now), stays_same (g.I.Inbox.faults c.args.inbox.now));
+      library_later = omega arith;
+      others = λ told name own below. c.sweep_owed.ensures.others told name below;
+    }) c.take_turn.ensures.caused
 
-pub give_up_at_last-requires : goal.give_up_at_last-requires
-give_up_at_last-requires g c =
-    let q = c.requires.from_state in
-    let d = idle_device c.args.idle in
-    let told = Listed g.R.Runner.list g.R.Runner.told g.R.Runner.asked c.settle.new.runner in
-    let world = g.S.Supervise.world c.settle.new.supervisor in
-    let living = g.R.Runner.living c.settle.new.runner in
-    let k = c.settle.ensures.trace q.0 d q.1 in
-    let s = settled_none q.0 (state_after q.0 k.0) d world told living c.settle.result c.in-None.is k.2 in
-    record { from_state = (state_after q.0 k.0, d, s.0) }
+-- ---- the disk failed
 
-pub returns-in-None-clause-left : goal.returns-in-None-clause-left
-returns-in-None-clause-left g c = λ p serving left.
-    let d = idle_device c.args.idle in
-    let told = Listed g.R.Runner.list g.R.Runner.told g.R.Runner.asked c.settle.new.runner in
-    let world = g.S.Supervise.world c.settle.new.supervisor in
-    let living = g.R.Runner.living c.settle.new.runner in
-    let k = c.settle.ensures.trace p d serving in
-    let q = state_after p k.0 in
-    let s = settled_none p q d world told living c.settle.result c.in-None.is k.2 in
-    let t = c.give_up_at_last.ensures.trace q d s.0 in
-    let stands = idle_stands g.D.Disk g.J.Journal g.met.D.Disk.laws g.met.J.Journal.laws c.args.idle c.args.disk.now c.requires.held p.device
-    serving.stands.device_is in
-    let Clause = IsDeployedThere (g.L.Library.content c.args.library.now) in
+pub give_up_sweeping-requires : goal.give_up_sweeping-requires
+give_up_sweeping-requires g c = let q = c.requires.from_state in record { from_state = (q.0, idle_device c.args.idle, q.1) }
+
+pub returns-in-Err-clause-left : goal.returns-in-Err-clause-left
+returns-in-Err-clause-left g c = λ p serving left.
     let old = outside g.D.Disk g.K.Sink g.R.Runner g.L.Library g.I.Inbox c.args.disk.now c.args.sink.now c.args.runner.now c.args.library.now c.args.inbox.now
     in
-    let new = outside g.D.Disk g.K.Sink g.R.Runner g.L.Library g.I.Inbox c.args.disk.now c.args.sink.now c.give_up_at_last.new.runner c.args.library.now
-    c.args.inbox.now in
-    let h = t.0 ++ k.0 in (
-      h,
-      over_at g.D.Disk g.J.Journal g.met.D.Disk.laws Clause old p stands WantOfMemory statuses.Memory false new h
-          (given_up g.D.Disk g.J.Journal g.met.D.Disk.laws Clause old p stands WantOfMemory statuses.Memory [] new h refl
-          (acts_on p k.0 t.0 (g.R.Runner.list c.args.runner.now) (g.R.Runner.list c.settle.new.runner) (g.R.Runner.list c.give_up_at_last.new.runner) k.1 t.1)
-          refl refl refl (refl, record { answered = refl; waiting = refl; library = refl }) ([], [], refl, Appends-nil (g.K.Sink.held c.args.sink.now))
-          (λ other. Appends-nil (g.K.Sink.held c.args.sink.now))
-          (subst (λ (x : SessionState). IsEnd x statuses.Memory false) (sym (left-append p t.0 k.0)) t.2)),
+    let k = c.give_up_sweeping.ensures.trace p (idle_device c.args.idle) serving in (
+      k.0,
+      sweep_fails g.D.Disk g.J.Journal g.met.D.Disk.laws g.met.J.Journal.laws c.requires.apart c.requires.own
+          (IsDeployedThere (g.L.Library.content c.args.library.now)) c.args.idle old c.sweep_owed.new.disk (g.D.Disk.faults c.sweep_owed.new.disk)
+          c.requires.held c.sweep_owed.ensures.spared c.sweep_owed.ensures.safe p serving.stands.device_is c.give_up_sweeping.result
+          (g.R.Runner.list c.give_up_sweeping.new.runner) (g.K.Sink.held c.give_up_sweeping.new.sink) k.0 k.1 c.in-Err.ensures.cause
+          c.give_up_sweeping.ensures.answers c.give_up_sweeping.ensures.says k.2,
     )
 
-pub returns-in-None-clause-caused : goal.returns-in-None-clause-caused
-returns-in-None-clause-caused g c =
-    caused_none g.D.Disk.is_modelled g.J.Journal.files statuses.Memory
-    (observation g.D.Disk g.K.Sink g.L.Library g.I.Inbox c.args.disk.now c.args.sink.now c.args.library.now c.args.inbox.now) memory_quiet
+pub returns-in-Err-clause-caused : goal.returns-in-Err-clause-caused
+returns-in-Err-clause-caused g c =
+    let later = c.sweep_owed.ensures.later in
+    let said = c.give_up_sweeping.ensures.later in
+    record {
+      disk = λ is. c.in-Err.ensures.cause;
+      edge = λ is. inl (c.give_up_sweeping.ensures.edge is);
+      quiet_edges = λ edge. (c.give_up_sweeping.ensures.quiet edge, refl);
+      later = (omega (arith, later), omega (arith, said), stays_same (g.I.Inbox.faults c.args.inbox.now));
+      library_later = omega arith;
+      others = λ told name own below. c.sweep_owed.ensures.others told name below;
+    }

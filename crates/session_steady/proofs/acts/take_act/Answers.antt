@@ -9,6 +9,7 @@ use Rattle.session_acts.proofs.Entering.{never}
 use Rattle.session_acts.specs.Runs.{IsInTurn}
 use Rattle.session_acts.proofs.Taken.{failed_is, something_is}
 use Rattle.session_steady.specs.Runs.{IsSince}
+use Rattle.session_steady.proofs.Failures.{acts_unchanged, noted_still}
 use Rattle.session_steady.proofs.Hearing.{apart, hear_acts, hear_runs, hear_since}
 use Rattle.session_steady.proofs.Since.{idle_on, since_acts, since_on}
 use Rattle.session_steady.proofs.Staying.{taken_calms, taken_no_wilder}
@@ -23,12 +24,12 @@ act-requires-clause-from_state g c = let q = c.requires.from_state in (q.0, q.1)
 pub returns-in-Nothing-clause-trace : goal.returns-in-Nothing-clause-trace
 returns-in-Nothing-clause-trace g c = λ p runs idle.
     let w = c.in-Nothing.ensures.trace p runs in
-    (w.0, w.1.acts, since_acts p w.0 w.1, record { runs = w.2.0; quiet = λ none. w.2.1 })
+    (w.0, w.1.acts, since_acts p w.0 w.1, record { runs = w.2.0; quiet = λ none. w.2.1 }, noted_still p w.0 w.1 c.args.failed.now, acts_unchanged p w.0 w.1)
 
 pub returns-in-Something-clause-trace : goal.returns-in-Something-clause-trace
 returns-in-Something-clause-trace g c = λ p runs idle.
     let w = c.in-Something.ensures.trace p runs in
-    (w.0, w.1.acts, since_acts p w.0 w.1, record { runs = w.2; quiet = λ none. absurd (never false refl none) })
+    (w.0, w.1.acts, since_acts p w.0 w.1, record { runs = w.2; quiet = λ none. absurd (never false refl none) }, noted_still p w.0 w.1 c.args.failed.now, acts_unchanged p w.0 w.1)
 
 pub returns-in-Failed-clause-trace : goal.returns-in-Failed-clause-trace
 returns-in-Failed-clause-trace g c = λ p runs idle.
@@ -51,6 +52,8 @@ returns-in-Failed-clause-trace g c = λ p runs idle.
             (hear_runs c.orderly_laws.ensures q who step exit world new living w.2);
         quiet = λ none. absurd (never false refl none);
       },
+      refl,
+      acts_unchanged p w.0 w.1,
     )
 
 -- ---- the number

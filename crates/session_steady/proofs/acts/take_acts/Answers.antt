@@ -6,6 +6,7 @@ use Rattle.session_boots.proofs.Acting.{acts_none, acts_on}
 use Rattle.session_steady.specs.Acting.{ActLeft}
 use Rattle.session_acts.specs.Runs.{IsInTurn}
 use Rattle.session_steady.specs.Runs.{IsSince}
+use Rattle.session_steady.proofs.Failures.{changes_both, noted_both}
 use Rattle.session_steady.proofs.Since.{idle_on, since_on, since_self}
 use Rattle.session_steady.proofs.Staying.{no_wilder_on, self_no_wilder, steady_on}
 use Rattle.session_steady.proofs.acts.take_acts.Goals as goal
@@ -14,7 +15,7 @@ pub acts-init : goal.acts-init
 acts-init g c = record {
   now = c.requires.now.0;
   no_wilder = self_no_wilder (g.S.Supervise.world c.args.supervisor.now) c.requires.drives.0;
-  trace = λ p runs idle. ([], acts_none p (g.R.Runner.list c.args.runner.now) (g.R.Runner.list c.args.runner.now) refl, since_self p, runs);
+  trace = λ p runs idle. ([], acts_none p (g.R.Runner.list c.args.runner.now) (g.R.Runner.list c.args.runner.now) refl, since_self p, runs, refl, refl);
 }
 
 pub take_act-requires-clause-now : goal.take_act-requires-clause-now
@@ -42,6 +43,8 @@ acts-preserved g c = record {
             (Listed g.R.Runner.list g.R.Runner.told g.R.Runner.asked c.take_act.new.runner) (g.R.Runner.living c.take_act.new.runner))
             (sym (left-append p t.0 w.0))
             t.3.runs,
+        noted_both t.0 w.0 c.acts.failed c.take_act.new.failed t.4 w.4,
+        changes_both t.0 w.0 t.5 w.5,
       );
 }
 
@@ -57,6 +60,8 @@ returns-then-take_act-clause-trace g c = λ p runs idle.
           (Listed g.R.Runner.list g.R.Runner.told g.R.Runner.asked c.take_act.new.runner) (g.R.Runner.living c.take_act.new.runner))
           (sym (left-append p t.0 w.0))
           (record { runs = t.3.runs; quiet = λ none. t.3.quiet c.if-take_act.true }),
+      noted_both t.0 w.0 c.acts.failed c.take_act.new.failed t.4 w.4,
+      changes_both t.0 w.0 t.5 w.5,
     )
 
 pub take_act-requires-clause-drives : goal.take_act-requires-clause-drives

@@ -1,4 +1,4 @@
-use Rattle.std.proofs.Common.{refl}
+use Rattle.std.proofs.Common.{◌+◌, ◌≤◌, ℕ, List, length, refl, sym, subst}
 use Rattle.std.proofs.lemmas.Result.{on_ok_weaker}
 use Rattle.checkpoint_log.proofs.Turning.{live_behind, append_moments, append_stands}
 use Rattle.checkpoint_log.proofs.slots.SlotsJournal.append.Goals as goal
@@ -18,3 +18,15 @@ returns-clause-added g c payloads behind =
     refl c.slot_name.ensures behind c.requires.first
     (c.append_in.ensures.any_moment payloads live) added)
     (c.append_in.ensures.added payloads live)
+
+pub returns-clause-fits : goal.returns-clause-fits
+returns-clause-fits g c told le =
+    c.append_in.ensures.fits told
+    (subst (λ (name : List ℕ). c.args.self.now.live.end + 6 + length c.args.payload.now ≤ length (g.D.Disk.seen c.args.disk.now name))
+    (sym c.slot_name.ensures) le)
+
+pub returns-clause-room : goal.returns-clause-room
+returns-clause-room g c told =
+    on_ok_weaker c.append_in.result
+    (λ le. subst (λ (name : List ℕ). length (g.D.Disk.seen c.args.disk.now name) ≤ length (g.D.Disk.seen c.append_in.new.disk name)) c.slot_name.ensures le)
+    (c.append_in.ensures.longer told)

@@ -1,4 +1,4 @@
-use Rattle.std.proofs.Common.{◌<◌, inl, refl, arith}
+use Rattle.std.proofs.Common.{◌<◌, ◌≤◌, ℕ, List, inl, length, refl, subst, arith}
 use Rattle.disk_model.specs.Moments.{weaker}
 use Rattle.checkpoint_log.proofs.Turning.{ready, keep_moments, turn_left, turn_moments, turn_stands}
 use Rattle.checkpoint_log.proofs.slots.SlotsJournal.end_turn.Goals as goal
@@ -56,3 +56,10 @@ returns-clause-turned g c more turns is_put =
           c.requires.open.1 c.close_behind.ensures.moments (λ told. c.in_ok-close_behind.ensures.written told more (r.put told)) r.says
           c.open_gate.ensures.moments c.in_ok-open_gate.ensures.durable (λ told. (c.in_ok-open_gate.ensures.written told).here),
     )
+
+pub returns-clause-room : goal.returns-clause-room
+returns-clause-room g c told turns =
+    let closed = c.in_ok-close_behind.ensures.longer told in
+    let opened = c.in_ok-open_gate.ensures.longer told in
+    subst (λ (name : List ℕ). length (g.D.Disk.seen c.args.disk.now name) ≤ length (g.D.Disk.seen c.open_gate.new.disk name)) c.slot_name-other.ensures
+    (omega (arith, closed, opened))

@@ -1,4 +1,4 @@
-use Rattle.std.proofs.Common.{◌<◌, IsTrue, refl, arith}
+use Rattle.std.proofs.Common.{◌<◌, ◌≤◌, ℕ, IsTrue, List, length, refl, subst, arith}
 use Rattle.checkpoint_log.proofs.Turning.{keep_moments, keep_stands, turn_left}
 use Rattle.checkpoint_log.proofs.slots.SlotsJournal.put.Goals as goal
 
@@ -30,3 +30,8 @@ pub put_behind-requires-clause-room : goal.put_behind-requires-clause-room
 put_behind-requires-clause-room g c =
     let left : c.args.self.now.number < 18446744073709551615 = omega (arith, c.if-self-ge18446744073709551615.false) in
     c.requires.room (turn_left c.args.self.now.number left)
+
+pub returns-clause-room : goal.returns-clause-room
+returns-clause-room g c told =
+    subst (λ (name : List ℕ). length (g.D.Disk.seen c.args.disk.now name) ≤ length (g.D.Disk.seen c.put_behind.new.disk name)) c.slot_name.ensures
+    (c.in_ok-put_behind.ensures.longer told)

@@ -6,7 +6,7 @@ use Rattle.device.specs.Lawful.{applied}
 use Rattle.device.specs.Spares.{IsSpareOf}
 use Rattle.device.specs.declared.spare.Spare.{Spare}
 use Rattle.deploy_state.specs.States.{device_of}
-use Rattle.deploy_state.proofs.Meaning.{of_entry, means_more, room_more, takes_of, fits, has_entry, append_rose}
+use Rattle.deploy_state.proofs.Meaning.{Reaches, of_entry, means_more, room_more, takes_of, fits, fits_in, next_in, reaches_more, has_entry, append_rose}
 use Rattle.deploy_state.proofs.Sparing.{spare_stays, may_as}
 use Rattle.deploy_state.proofs.Handing.{handed}
 use Rattle.deploy_state.proofs.state.Hand.note.Goals as goal
@@ -89,3 +89,35 @@ returns-in-Err-clause-cause g c =
           (λ is. c.in-Err.ensures.cause is)
           (λ at is. let full = (c.in-Err.ensures.full at).0 is in omega (arith, full.1, room, size, w.ensures.small.1));
     }
+
+pub returns-in-Ok-clause-spared : goal.returns-in-Ok-clause-spared
+returns-in-Ok-clause-spared g c = λ told ready.
+    let w = c.write_mark-size in
+    let h = c.requires.hand in
+    let may = c.requires.may in
+    let size = sized w.new.into w.result w.array_long w.ensures.small.1 in
+    let room = fits_in _ (g.J.Journal.end c.args.self.now.log) (device_of c.args.self.now) c.args.mark may.0 ready h.sound may.1 may.2 in
+    c.append.ensures.fits told (omega (arith, room, size, w.ensures.small.1))
+
+pub returns-in-Err-clause-spared : goal.returns-in-Err-clause-spared
+returns-in-Err-clause-spared g c = λ told ready.
+    let w = c.write_mark-size in
+    let h = c.requires.hand in
+    let may = c.requires.may in
+    let size = sized w.new.into w.result w.array_long w.ensures.small.1 in
+    let room = fits_in _ (g.J.Journal.end c.args.self.now.log) (device_of c.args.self.now) c.args.mark may.0 ready h.sound may.1 may.2 in
+    c.append.ensures.fits told (omega (arith, room, size, w.ensures.small.1))
+
+pub returns-in-Ok-clause-ready : goal.returns-in-Ok-clause-ready
+returns-in-Ok-clause-ready g c = λ told ready.
+    let w = c.write_mark-size in
+    let h = c.requires.hand in
+    let may = c.requires.may in
+    let d = device_of c.args.self.now in
+    let before = g.J.Journal.room c.args.self.now.log (g.D.Disk.seen c.args.disk.now) in
+    let after = g.J.Journal.room c.append.new.self (g.D.Disk.seen c.append.new.disk) in
+    let next = g.J.Journal.end c.append.new.self in
+    let there = next_in before (g.J.Journal.end c.args.self.now.log) next d (take w.result w.new.into) c.args.mark may.0 ready h.sound may.1 may.2
+    (w.ensures.spelled may.0 may.1) c.in-Ok.ensures.place in
+    subst (λ (e : Device). Reaches after next e) (sym (c.apply_mark.ensures.applied may.0 may.1))
+    (reaches_more before after next (applied d may.0) (c.in-Ok.ensures.room told) there)

@@ -7,8 +7,8 @@ use Rattle.device.specs.Lawful.{applied}
 use Rattle.device.specs.Spares.{IsSpareOf}
 use Rattle.device.specs.declared.staged.Stage.TheVariants as stages
 use Rattle.deploy_state.specs.States.{IsIn, idle_device}
-use Rattle.deploy_state.proofs.Accepted.{plan_in_hand, plan_short, plan_some, spare_taken, with_plan}
-use Rattle.deploy_state.proofs.Meaning.{append_rose, has_entry, of_entry}
+use Rattle.deploy_state.proofs.Accepted.{left_few, plan_in_hand, plan_short, plan_some, spare_taken, with_plan}
+use Rattle.deploy_state.proofs.Meaning.{Reaches, append_rose, has_entry, of_entry}
 use Rattle.deploy_state.proofs.Turning.{place_more}
 use Rattle.deploy_state.proofs.state.Idle.enter.Goals as goal
 
@@ -92,3 +92,16 @@ returns-in-Err-clause-cause g c = record {
       (λ is. c.in-Err.ensures.cause is)
       (λ at is. let full = (c.in-Err.ensures.full at).0 is in let same = ap length c.as_slice.ensures in omega (arith, full.1, c.requires.room, same));
 }
+
+pub returns-in-Ok-clause-ready : goal.returns-in-Ok-clause-ready
+returns-in-Ok-clause-ready g c = λ had told.
+    let d = idle_device c.args.self in
+    let plan = plan_view c.args.kit.plan in
+    let place = c.in-Ok.ensures.place in
+    let same = ap length c.as_slice.ensures in
+    let few = left_few d c.args.kit.payload plan c.requires.held.0.sound c.requires.held.1 c.requires.lawful c.requires.payload in
+    let before = had told in
+    let kept = c.in-Ok.ensures.room told in
+    let after = g.J.Journal.room c.append-appended.new.self (g.D.Disk.seen c.append-appended.new.disk) in
+    subst (λ (e : Device). Reaches after (g.J.Journal.end c.append-appended.new.self) e) (sym c.take_plan.ensures)
+    (omega (arith, place, same, few, before, kept))

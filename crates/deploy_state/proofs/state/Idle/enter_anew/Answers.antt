@@ -1,4 +1,4 @@
-use Rattle.std.proofs.Common.{inl}
+use Rattle.std.proofs.Common.{inl, arith}
 use Rattle.records.specs.Stored as stored
 use Rattle.records.specs.Stored.{plan_view}
 use Rattle.device.specs.Lawful.{applied}
@@ -25,3 +25,7 @@ returns-in-Err-clause-moments g c =
     then_within g.met.D.Disk.laws g.J.Journal.files c.args.disk.now c.turn.new.disk c.enter.new.disk (λ i. StandsFor entries i d)
     (StandsForEither entries d e) (StandsForEither entries d e)
     c.turn.ensures.moments c.enter.ensures.moments (λ i h. inl h) (λ i h. h)
+
+pub returns-in-Ok-enter-clause-ready : goal.returns-in-Ok-enter-clause-ready
+returns-in-Ok-enter-clause-ready g c = λ told.
+    c.in-Ok-enter.ensures.ready (λ t. omega (arith, c.in-Ok.ensures.ready t, c.in-Ok.ensures.end, c.requires.to)) told

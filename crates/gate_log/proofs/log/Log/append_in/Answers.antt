@@ -5,7 +5,7 @@ use Rattle.disk_model.specs.Moments.{step_as, then_step, tells_of}
 use Rattle.gate_log.specs.Entries.{most_payload, joined, ClosedAt, HasEntries}
 use Rattle.gate_log.specs.Journal.{IsChangeIn, IsBehind, BeforeOrAfter, files_of, entries_in, stands_in, reads_behind}
 use Rattle.gate_log.specs.declared.log.Log.{Log}
-use Rattle.gate_log.proofs.Gates.{kept, staged_is, torn_gate, opened}
+use Rattle.gate_log.proofs.Gates.{has_gate, kept, staged_is, torn_gate, opened}
 use Rattle.gate_log.proofs.Whole.{as_within}
 use Rattle.gate_log.proofs.log.Log.append_in.Goals as goal
 
@@ -15,9 +15,6 @@ all_closed images file bytes place payloads settled closed i left = subst (λ (l
 
 reaches : (file prefix rest : List ℕ) (end : ℕ) → file ≡ prefix ++ 0 ∷ rest → end ≡ length prefix → end ≤ length file
 reaches file prefix rest end is end_is = omega (arith, ap length is, length-append prefix (0 ∷ rest), end_is)
-
-has_gate : (file : List ℕ) (end : ℕ) (payloads : List (List ℕ)) → ClosedAt file end payloads → end + 1 ≤ length file
-has_gate file end payloads h = omega (arith, ap length h.file_is, length-append (joined h.entries) (0 ∷ h.tail), h.end_is)
 
 -- an entry is staged behind the closed gate, stable, and the gate is opened: the moments of both
 opened_moments : {D : Type 0} {is_modelled : Bool} {seen : D → Image} {may_leave : D → Image → Type 0} {moment : D → ℕ} {left_since : D → ℕ → Image → Type 0}
@@ -92,3 +89,11 @@ returns-clause-added g c payloads is_open =
           (staged_is file end payloads closed c.args.payload.now written.0 c.requires.some c.requires.fits mid written.1)
           (c.in_ok-open_gate.ensures.written told).here) i left;
     }
+
+pub returns-in_err-open_gate-clause-fits : goal.returns-in_err-open_gate-clause-fits
+returns-in_err-open_gate-clause-fits g c told le =
+    c.open_gate.ensures.fits (omega (arith, le, c.in_ok-stage.ensures.longer told)) ∙ c.stage.ensures.fits told le
+
+pub returns-clause-fits : goal.returns-clause-fits
+returns-clause-fits g c told le =
+    c.open_gate.ensures.fits (omega (arith, le, c.in_ok-stage.ensures.longer told)) ∙ c.stage.ensures.fits told le

@@ -3,7 +3,7 @@ use Rattle.std.proofs.lemmas.Bool.{false≢true}
 use Rattle.step_runner.specs.Entries.{Listed}
 use Rattle.session_boots.proofs.Acting.{acts_none}
 use Rattle.session.proofs.States.{quit_bare, quit_none}
-use Rattle.session.proofs.giving.give_up.Goals as goal
+use Rattle.session.proofs.giving.kill_standing.Goals as goal
 
 -- ---- none stands
 

@@ -1,6 +1,5 @@
-use Rattle.std.specs.Prelude.{◌++◌, false}
-use Rattle.std.proofs.Common.{◌∙◌, refl, sym, subst}
-use Rattle.nuc_base.specs.declared.status.Status.TheVariants as statuses
+use Rattle.std.specs.Prelude.{◌++◌}
+use Rattle.std.proofs.Common.{◌∙◌, sym, subst}
 use Rattle.step_runner.specs.Entries.{Listed}
 use Rattle.histories.specs.Courses.{IsEnd}
 use Rattle.histories.specs.States.{SessionState, state_after}
@@ -8,7 +7,7 @@ use Rattle.histories.proofs.Joined.{left-append}
 use Rattle.session_boots.proofs.Acting.{acts_on}
 use Rattle.session_serving.proofs.Hearing.{hear_all}
 use Rattle.session_serving.proofs.States.{heard_gives_up, killed_end}
-use Rattle.session_serving.proofs.ends.give_up_at_last.Goals as goal
+use Rattle.session_serving.proofs.ends.give_up_serving.Goals as goal
 
 pub kill_all-requires : goal.kill_all-requires
 kill_all-requires g c =
@@ -33,6 +32,6 @@ returns-clause-trace g c = λ p d v.
     let k = c.kill_all.ensures.trace q (heard_gives_up p d (g.S.Supervise.world c.args.supervisor.now) told (g.R.Runner.living c.args.runner.now) v list a) in (
       k.0 ++ a.h,
       acts_on p a.h k.0 list list (g.R.Runner.list c.kill_all.new.runner) a.acts k.1,
-      subst (λ (x : SessionState). IsEnd x statuses.Memory false) (sym (left-append p k.0 a.h))
-          (killed_end q (state_after q k.0) statuses.Memory false k.2 k.3 a.owes_none (a.boot_end ∙ v.steady.boot_end) (a.over ∙ v.steady.over) refl),
+      λ status rose gives. subst (λ (x : SessionState). IsEnd x status rose) (sym (left-append p k.0 a.h))
+          (killed_end q (state_after q k.0) status rose k.2 k.3 a.owes_none (a.boot_end ∙ v.steady.boot_end) (a.over ∙ v.steady.over) gives),
     )
