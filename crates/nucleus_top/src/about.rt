@@ -90,11 +90,11 @@ fn program_text(alloc: Global, version: &str) -> Result<Text, NoMemory>
 }
 
 /// Adds that a record's kind is unknown.
-fn put_unknown(alloc: Global, out: &mut Text, record: &UnknownRecord) -> Result<(), NoMemory>
-    ensures { OnOk result (out.new ≡ out.old ++ unknown_line record.now) }
+fn put_unknown(alloc: Global, out: &mut Text, unknown: &UnknownRecord) -> Result<(), NoMemory>
+    ensures { OnOk result (out.new ≡ out.old ++ unknown_line unknown.now) }
 {
-    let kind = hex::encode(alloc, &[record.kind])?;
-    let at = record.at;
+    let kind = hex::encode(alloc, &[unknown.kind])?;
+    let at = unknown.at;
     let place = format!(in alloc; "{at}")?;
     put_line(
         out,
@@ -112,7 +112,7 @@ fn put_first_unknown(
     ensures { OnOk result (out.new ≡ out.old ++ unknown_lines unknown.now) }
 {
     match unknown {
-        Some(record) => put_unknown(alloc, out, record),
+        Some(unknown) => put_unknown(alloc, out, unknown),
         None => Ok(()),
     }
 }

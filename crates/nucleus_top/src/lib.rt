@@ -13,7 +13,7 @@ mod about;
 mod answer;
 mod asking;
 mod auditing;
-mod components;
+mod component_lines;
 mod config_getting;
 mod driving;
 mod explanation;

@@ -14,7 +14,7 @@ ghost use Rattle.nucleus_top.specs.Parts.{WordsAnswer, Parts, setting_of};
 use crate::about::about;
 use crate::answer::Answer;
 use crate::auditing::audit;
-use crate::components::components;
+use crate::component_lines::components;
 use crate::config_getting::get;
 use crate::init::init;
 use crate::planning::plan;

@@ -6,7 +6,7 @@ use Rattle.nucleus_top.specs.Components.{ListsStopped}
 use Rattle.nucleus_top.proofs.ComponentsEnds.{lists_none}
 use Rattle.nucleus_top.proofs.Faults.{refuses, refused_keeps, other_fault}
 use Rattle.nucleus_top.proofs.Looked.{found_looks, refused_looks}
-use Rattle.nucleus_top.proofs.components.list_set.Goals as goal
+use Rattle.nucleus_top.proofs.component_lines.list_set.Goals as goal
 
 pub returns-in-Ok-clause-comes : goal.returns-in-Ok-clause-comes
 returns-in-Ok-clause-comes g c =
