@@ -1,4 +1,4 @@
-use Rattle.std.proofs.Common.{◌∙◌, None, Some, subst}
+use Rattle.std.proofs.Common.{◌∙◌, ℕ, List, None, Option, Some, subst}
 use Rattle.disk_model.specs.Disk.{Image}
 use Rattle.disk_model.specs.Moments.{then_same}
 use Rattle.nucleus_top.specs.Answers.{Store, store_over}
@@ -12,7 +12,8 @@ returns-in-Ok-Some-clause-comes g c =
     let held = c.if-not-has_writer.ensures in
     running_comes (g.D.Disk.writer c.args.disk.now) (store_over g.D.Disk c.args.disk.now c.running.new.disk) c.in-Ok-Some.text
     (c.in-Ok-Some.ensures.seen ∙ held.seen) held.told
-    (λ told. subst (λ (image : Image). RunningOutcome (running_text image) (Some c.in-Ok-Some.text)) held.seen (c.in-Ok-Some.ensures.told told))
+    (λ told. subst (λ (image : Image). RunningOutcome (running_text image) (Some c.in-Ok-Some.text)) held.seen (subst (λ (o : Option (List ℕ)). RunningOutcome (running_text (g.D.Disk.seen c.has_writer.new.self)) o) c.in-Ok-Some.field-0-is
+    (c.in-Ok-Some.ensures.told told)))
 
 pub returns-in-Ok-None-clause-comes : goal.returns-in-Ok-None-clause-comes
 returns-in-Ok-None-clause-comes g c =
@@ -25,7 +26,8 @@ returns-in-Ok-None-clause-comes g c =
     (g.D.Disk.faults c.running.new.disk) (g.D.Disk.faults c.list_set-in-Ok-None.new.disk) (c.in-Ok-None.ensures.seen ∙ held.seen)
     (c.in-Ok-None.ensures.quiet (λ is. cc) ∙ held.quiet) c.list_set-in-Ok-None.ensures.comes)
     (unsaid writer store
-    (λ told. subst (λ (image : Image). RunningOutcome (running_text image) None) held.seen (c.in-Ok-None.ensures.told told)))
+    (λ told. subst (λ (image : Image). RunningOutcome (running_text image) None) held.seen (subst (λ (o : Option (List ℕ)). RunningOutcome (running_text (g.D.Disk.seen c.has_writer.new.self)) o) c.in-Ok-None.field-0-is
+    (c.in-Ok-None.ensures.told told))))
 
 pub returns-in-Ok-None-clause-moments : goal.returns-in-Ok-None-clause-moments
 returns-in-Ok-None-clause-moments g c =

@@ -5,7 +5,7 @@ use Rattle.command_words.specs.declared.order.Order.TheVariants as order
 use Rattle.nucleus_top.specs.Leaving.{IsDurable}
 use Rattle.nucleus_top.specs.Answers.{Store, store_of}
 use Rattle.nucleus_top.proofs.Reading.{reads_none}
-use Rattle.nucleus_top.proofs.WorkloadEnds.{asks_other, tells_draws}
+use Rattle.nucleus_top.proofs.WorkloadEnds.{asks_nothing, asks_other, drives_some, tells_draws}
 use Rattle.nucleus_top.proofs.looking.answer.Goals as goal
 
 pub returns-in-Err-Usage-clause-comes : goal.returns-in-Err-Usage-clause-comes
@@ -129,4 +129,7 @@ returns-in-Components-clause-keeps g c = λ other asks done.
 -- ---- a command that drives components
 
 pub returns-clause-comes : goal.returns-clause-comes
-returns-clause-comes g c = let it = c.in-Deploy.is in let that = c.match-order-2.branch in inr (inl (refl, λ other asks. ?, refl))
+returns-clause-comes g c =
+    let words : List (List ℕ) = map string_bytes c.args.words.now.items in
+    let was : IsOrder words c.in-Ok._root c.in-Ok.order = grind (arith, c.in-Ok.ensures, c.in-Ok._root-is, c.in-Ok.order-is) in
+    inr (inl (refl, asks_nothing c.words_ask_one_thing.ensures words c.in-Ok._root c.in-Ok.order was (drives_some c.in-Ok.order c.in-Deploy.is), refl))
