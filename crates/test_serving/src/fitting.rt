@@ -122,7 +122,7 @@ fn outcome_at(alloc: Global, store: &MemoryDisk, number: u64) -> Result<Outcome,
 }
 
 /// The outcomes of all calls of the disk, or none where something else comes.
-fn tally(alloc: Global, store: &MemoryDisk) -> Result<Option<Tally>, Fail> {
+fn tally_of(alloc: Global, store: &MemoryDisk) -> Result<Option<Tally>, Fail> {
     let mut tally = Tally { unfit: 0, first: 0 };
     for number in 0..MOST_CALLS {
         match outcome_at(alloc, store, number)? {
@@ -184,7 +184,7 @@ fn store(alloc: Global) -> Result<MemoryDisk, Fail> {
 
 /// How often an artifact could not be taken in, and whether the call ended where it could not be swept either.
 fn faults_over(alloc: Global, store: &MemoryDisk) -> Result<Option<(u64, bool)>, Fail> {
-    match tally(alloc, store)? {
+    match tally_of(alloc, store)? {
         Some(tally) => Ok(Some((tally.unfit, ends_unswept(alloc, store, tally.first)?))),
         None => Ok(None),
     }
