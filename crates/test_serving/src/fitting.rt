@@ -131,7 +131,7 @@ fn tally_of(alloc: Global, store: &MemoryDisk) -> Result<Option<Tally>, Fail> {
                 if tally.unfit == 0 {
                     tally.first = number;
                 }
-                tally.unfit += 1;
+                tally.unfit = tally.unfit.saturating_add(1);
             }
             Outcome::Ended => {}
             Outcome::Wrong => return Ok(None),
@@ -153,7 +153,7 @@ fn is_unswept(alloc: Global, store: &MemoryDisk, first: u64, later: u64) -> Resu
 
 /// Whether some later call does that.
 fn ends_unswept(alloc: Global, store: &MemoryDisk, first: u64) -> Result<bool, Fail> {
-    for later in first + 1..MOST_CALLS {
+    for later in first.saturating_add(1)..MOST_CALLS {
         if is_unswept(alloc, store, first, later)? {
             return Ok(true);
         }
