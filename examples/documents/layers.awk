@@ -1,5 +1,5 @@
-# Reads crates.txt and the picture of the layers in ARCHITECTURE.md. Prints where a crate of the picture stands on one that is not on a
-# lower line, and each crate but the tests that is not in the picture.
+# Reads crates.txt and the table of the layers in ARCHITECTURE.md. Prints where a crate of the table stands on one that is not on a
+# lower line, and each crate but the tests that is not in the table.
 FILENAME ~ /crates\.txt$/ {
     sub(/#.*$/, "")
     if (match($0, /^[a-z_0-9]+:/)) {
@@ -11,21 +11,18 @@ FILENAME ~ /crates\.txt$/ {
 /^## / {
     on = $0 == "## The layers"
 }
-# A line that begins far to the right goes on with the layer before.
-on && /^    / {
-    if (!/^ {40}/) {
-        level++
-    }
-    gsub(/,/, "")
-    for (at = 1; at <= NF; at++) {
-        levels[$at] = level
+on && /^\| / {
+    level++
+    while (match($0, /`[a-z_0-9]+`/)) {
+        levels[substr($0, RSTART + 1, RLENGTH - 2)] = level
+        $0 = substr($0, RSTART + RLENGTH)
     }
 }
 END {
     for (crate in needs) {
         if (!(crate in levels)) {
             if (crate !~ /^test_/ && crate != "nuc_vectors") {
-                print "docs/ARCHITECTURE.md: " crate " is not in the picture"
+                print "docs/ARCHITECTURE.md: " crate " is not in the table of the layers"
                 bad = 1
             }
             continue
@@ -33,7 +30,7 @@ END {
         count = split(needs[crate], each, " ")
         for (at = 1; at <= count; at++) {
             if (each[at] in needs && levels[each[at]] <= levels[crate]) {
-                print "docs/ARCHITECTURE.md: " crate " stands on " each[at] ", which is not lower in the picture"
+                print "docs/ARCHITECTURE.md: " crate " stands on " each[at] ", which is not lower in the table of the layers"
                 bad = 1
             }
         }

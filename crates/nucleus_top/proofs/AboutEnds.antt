@@ -1,9 +1,12 @@
 -- What each answer of `about` amounts to.
-use Rattle.std.proofs.Common.{◌≡◌, ◌≢◌, ◌∙◌, ◌⊎◌, inl, inr, ℕ, List, Bool, IsTrue, Option, Ok, Err, refl, sym, ap, subst}
+use Rattle.std.proofs.Common.{◌≡◌, ◌≢◌, ◌∙◌, ◌⊎◌, ◌++◌, ◌∷◌, [], inl, inr, ℕ, List, Bool, IsTrue, Option, Ok, Err, refl, sym, ap, subst}
+use Rattle.std.specs.Prelude.{codes}
+use Rattle.std.proofs.lemmas.List.{append-nil}
 use Rattle.nuc_base.specs.declared.status.Status.{Status}
 use Rattle.nuc_base.specs.declared.status.Status.TheVariants as status
 use Rattle.disk_model.specs.Disk.{Image}
 use Rattle.checkpoint_log.specs.Slots.{slots_none}
+use Rattle.status_text.specs.Status.{line}
 use Rattle.store_root.specs.Tallies.{TallyAnswer}
 use Rattle.store_root.specs.declared.tally.Tally.{Tally}
 use Rattle.store_root.specs.declared.tally.UnknownRecord.{UnknownRecord}
@@ -11,7 +14,7 @@ use Rattle.device.specs.Devices.{Device, no_device}
 use Rattle.deploy_state.specs.declared.fault.LoadFault.{LoadFault}
 use Rattle.deploy_state.specs.declared.fault.LoadFault.TheVariants as load
 use Rattle.nucleus_top.specs.Abouts.{AboutAnswer, AboutParts, IsTold, IsUnread, TellsNoDevice, TellsProgram, TellsStore, TellsUnread}
-use Rattle.nucleus_top.specs.Answers.{Store, Printed, IsPrinted, IsUnchanged, HasRisen, HasPrinted, IsOrFault, status_of}
+use Rattle.nucleus_top.specs.Answers.{Store, Printed, IsPrinted, IsUnchanged, HasRisen, HasPrinted, IsOrFault, damaged_line, status_of}
 use Rattle.nucleus_top.specs.Opening.{IsImageOf, HasEntry, OpenAnswer, StandsForNone}
 use Rattle.nucleus_top.specs.declared.answer.Answer.{Answer}
 use Rattle.nucleus_top.specs.declared.answer.Answer.TheVariants.{Made, Shown, Planned, Possible, Got, Drawn, Whole, Unplanned, DiskFailed, Damaged}
@@ -67,6 +70,17 @@ other_told version unknown load.Disk a tells other is = other tells
 other_told version unknown load.NotInitialised a tells other is = cc
 other_told version unknown (load.Damaged at) a tells other is = cc
 other_told version unknown load.NoMemory a tells other is = cc
+
+-- what is done did not fail
+pub done_unfailed : (a : Answer) → status_of a ≡ status.Done → a ≢ DiskFailed
+done_unfailed a done failed = apart (sym (ap status_of failed) ∙ done)
+  where
+    apart : status.Disk ≡ status.Done → ⊥
+    apart is = cc
+
+-- the line of a damaged journal
+pub damage_said : (place : List ℕ) → line (codes "refused 9 Damaged") (place ∷ []) ≡ damaged_line place
+damage_said place = ap (λ (l : List ℕ). codes "refused 9 Damaged " ++ l) (ap (λ (l : List ℕ). l ++ codes "\n") (append-nil place))
 
 -- the same answer of what the disk was before it was counted
 pub counted_first : (version : List ℕ) (is_modelled : Bool) (start before after : Image) (first second last : ℕ) (a : Answer) → before ≡ start → second ≡ first

@@ -1,5 +1,7 @@
 -- What each answer of `components` amounts to.
 use Rattle.std.proofs.Common.{◌≡◌, ◌≢◌, ◌∙◌, ◌⊎◌, inl, inr, ℕ, List, [], Bool, true, false, IsTrue, Option, Some, None, refl, sym, ap, subst}
+use Rattle.std.proofs.Common.{◌++◌, ◌≤◌, arith, drop, length, min, take}
+use Rattle.std.proofs.lemmas.List.{length-take-le, take-append-le, take_all, take_min}
 use Rattle.std.specs.Prelude.{IsUtf8, IfSome}
 use Rattle.nuc_base.specs.declared.status.Status.{Status}
 use Rattle.nuc_base.specs.declared.status.Status.TheVariants as status
@@ -21,6 +23,17 @@ use Rattle.nucleus_top.proofs.Told.{answer_or_edge}
 
 pub lists_none : (store : Store) → TellsNone ListsStopped store
 lists_none store = record { disk_fails = λ d on. on; no_entry = λ d on. on; harmed = λ d place on. on }
+
+-- ---- one read of a file
+
+-- what a read from its beginning gives, by the answer of a disk
+pub read_whole : (file old new : List ℕ) (most n : ℕ) → length old ≡ most → (n ≡ min (length old) (length file)) × (new ≡ take n file ++ drop n old) →
+    take n new ≡ take most file
+read_whole file old new most n long told =
+    let within : n ≤ length file = omega (arith, told.0) in
+    let piece : length (take n file) ≡ n = length-take-le n file within in
+    ap (take n) told.1 ∙ take-append-le n (take n file) (drop n old) (omega (arith, piece)) ∙ take_all n (take n file) (omega (arith, piece))
+    ∙ ap (λ (k : ℕ). take k file) (told.0 ∙ ap (λ (m : ℕ). min m (length file)) long) ∙ take_min most file
 
 -- ---- how an answer comes
 
@@ -127,11 +140,15 @@ module _ (writer : Option Bool) (store : Store) (printed : Printed) (result : St
   not_running text is_modelled (inr (inl empty)) runs = (runs.lines is_modelled).1 ((runs.lines is_modelled).0 ∙ empty)
   not_running text is_modelled (inr (inr other)) runs = other (subst IsUtf8 (runs.lines is_modelled).0 (runs.lines is_modelled).2)
 
+  none_shown : (text : List ℕ) → IsTrue store.is_modelled → IsSilent writer store.before → slots_none store.before →
+      IsRunning writer store text ⊎ IsStopped writer store text → ⊥
+  none_shown text is_modelled silent holds_none (inl by) = not_running text is_modelled silent by
+  none_shown text is_modelled silent holds_none (inr stopped) = (stopped.found is_modelled).0 holds_none
+
   none_comes : (a : Answer) → ComponentsAnswer writer store a → IsPrinted printed result a → IsTrue store.is_modelled → IsSilent writer store.before →
       slots_none store.before → IsOrFault result status.NotInitialised
   none_comes a comes (inr told) is_modelled silent holds_none = inr (inr (inl told.0))
-  none_comes (Shown text) (same, inl runs) (inl told) is_modelled silent holds_none = absurd (not_running text is_modelled silent runs)
-  none_comes (Shown text) (same, inr stopped) (inl told) is_modelled silent holds_none = absurd ((stopped.found is_modelled).0 holds_none)
+  none_comes (Shown text) comes (inl told) is_modelled silent holds_none = absurd (none_shown text is_modelled silent holds_none comes.1)
   none_comes DiskFailed comes (inl told) is_modelled silent holds_none = inl told.0
   none_comes NotInitialised comes (inl told) is_modelled silent holds_none = inr (inl told.0)
   none_comes (Damaged place) comes (inl told) is_modelled silent holds_none =
@@ -147,11 +164,15 @@ module _ (writer : Option Bool) (store : Store) (printed : Printed) (result : St
   damaged a comes (inl told) is = cc
   damaged a comes (inr told) is = cc
 
+  refused_shown : (text : List ℕ) → IsTrue store.is_modelled → IsSilent writer store.before → StandsForNone store.before →
+      IsRunning writer store text ⊎ IsStopped writer store text → ⊥
+  refused_shown text is_modelled silent refuses (inl by) = not_running text is_modelled silent by
+  refused_shown text is_modelled silent refuses (inr stopped) = refuses stopped.device (stopped.found is_modelled).1
+
   damaged_comes : (a : Answer) → ComponentsAnswer writer store a → IsPrinted printed result a → IsTrue store.is_modelled → IsSilent writer store.before →
       StandsForNone store.before → IsOrFault result status.Damaged
   damaged_comes a comes (inr told) is_modelled silent refuses = inr (inr (inl told.0))
-  damaged_comes (Shown text) (same, inl runs) (inl told) is_modelled silent refuses = absurd (not_running text is_modelled silent runs)
-  damaged_comes (Shown text) (same, inr stopped) (inl told) is_modelled silent refuses = absurd (refuses stopped.device (stopped.found is_modelled).1)
+  damaged_comes (Shown text) comes (inl told) is_modelled silent refuses = absurd (refused_shown text is_modelled silent refuses comes.1)
   damaged_comes DiskFailed comes (inl told) is_modelled silent refuses = inl told.0
   damaged_comes NotInitialised comes (inl told) is_modelled silent refuses =
       absurd (refuses no_device (none_stands store.before (comes.0.1 is_modelled)))

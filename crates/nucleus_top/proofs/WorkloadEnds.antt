@@ -1,13 +1,14 @@
 -- What each answer of `workload` amounts to.
-use Rattle.std.proofs.Common.{◌≡◌, ◌∙◌, ◌⊎◌, inl, inr, IsTrue, refl, ap, subst, ℕ, List, []}
+use Rattle.std.proofs.Common.{◌≡◌, ◌∙◌, ◌⊎◌, inl, inr, IsTrue, refl, sym, ap, subst, ℕ, List, []}
 use Rattle.std.specs.Prelude.{true, Some, Result, Ok, Err, IfOk}
 use Rattle.nuc_base.specs.declared.kinds.Outcome.{Outcome}
+use Rattle.nuc_base.specs.declared.names.Name.{Name}
 use Rattle.nuc_base.specs.declared.status.Status.{Status}
 use Rattle.nuc_base.specs.declared.status.Status.TheVariants as status
 use Rattle.command_words.specs.Laws.{AsksOnce}
 use Rattle.command_words.specs.Words.{IsOrder}
 use Rattle.command_words.specs.declared.order.Order.{Order}
-use Rattle.command_words.specs.declared.order.Order.TheVariants.{Workload}
+use Rattle.command_words.specs.declared.order.Order.TheVariants.{ConfigSet, Deploy, Local, Resume, Serve, Workload}
 use Rattle.disk_model.specs.Disk.{Image}
 use Rattle.device.specs.Devices.{Device}
 use Rattle.library_core.specs.Library.{Content}
@@ -17,7 +18,7 @@ use Rattle.workload.specs.Inputs.{documents_from, recipes_from}
 use Rattle.workload.specs.Tallies.{tally_line, tally_of}
 use Rattle.workload.specs.declared.tallies.Tally.{Tally}
 use Rattle.nucleus_top.specs.Answers.{Store, Printed, IsPrinted, IsUnchanged, HasPrinted}
-use Rattle.nucleus_top.specs.Words.{AsksOrder}
+use Rattle.nucleus_top.specs.Words.{AsksNothing, AsksOrder, DrivesNone}
 use Rattle.nucleus_top.specs.Workloads.{WorkloadAnswer, DeviceAfterAll, IsBegunAs, IsTally, TellsTally, WorkloadParts, drawn_content, workload_origin}
 use Rattle.nucleus_top.specs.Begun.{begun_device}
 use Rattle.nucleus_top.specs.Inits.{InitAnswer}
@@ -83,6 +84,23 @@ tells_draws seed store a same tells = absurd tells
 pub asks_other : AsksOnce → (words : List (List ℕ)) (root : List ℕ) (order : Order) → IsOrder words root order → ((seed : ℕ) → order ≡ Workload seed → ⊥)
     → (seed : ℕ) → AsksOrder words (Workload seed) → ⊥
 asks_other once words root order is other seed asks = other seed (once words root asks.root order (Workload seed) is asks.is_order).1
+
+-- ---- a command that drives components
+
+pub drives_some : (order : Order) → (order ≡ Deploy) ⊎ ((order ≡ Resume) ⊎ (((turns : ℕ) × (order ≡ Serve turns)) ⊎ ((order ≡ Local) ⊎
+    ((name : Name) × (order ≡ ConfigSet name)))))
+    → DrivesNone order → ⊥
+drives_some order (inl is) none = subst DrivesNone is none
+drives_some order (inr (inl is)) none = subst DrivesNone is none
+drives_some order (inr (inr (inl (turns, is)))) none = subst DrivesNone is none
+drives_some order (inr (inr (inr (inl is)))) none = subst DrivesNone is none
+drives_some order (inr (inr (inr (inr (name, is))))) none = subst DrivesNone is none
+
+-- words that ask it ask none that looks
+pub asks_nothing : AsksOnce → (words : List (List ℕ)) (root : List ℕ) (order : Order) → IsOrder words root order → (DrivesNone order → ⊥) →
+    AsksNothing words
+asks_nothing once words root order is drives other asks =
+    drives (subst DrivesNone (sym (once words root asks.root order other is asks.is_order).1) asks.drives_none)
 
 module _ (seed : ℕ) (store : Store) (printed : Printed) (result : Status) where
   which : (a : Answer) → WorkloadAnswer seed store a → IsPrinted printed result a → (result ≡ status.Done) ⊎ (result ≡ status.Edge) ⊎ (result ≡ status.Memory)

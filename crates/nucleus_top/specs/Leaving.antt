@@ -46,10 +46,12 @@ abbrev pub files_of : Order → List ℕ → Type 0
 files_of order = slots_files
 
 -- A crash does not undo the work of a command that is done: after `init` each image stands for the new device, and
--- after the others the journal's files are as they read. `workload` has nothing to do with the disk.
+-- after the others the journal's files are as they read. `workload` has nothing to do with the disk, and `components` may say what
+-- another program runs, without a look at the journal.
 abbrev pub IsDurable : Order → (Image → Type 0) → Image → Type 0
 IsDurable (Init origin) images seen = (c : Image) → images c → IsImageOf c (begun_device origin)
 IsDurable (Workload seed) images seen = ⊤
+IsDurable Components images seen = ⊤
 IsDurable _ images seen = (name : List ℕ) → slots_files name → Settled images name (seen name)
 
 -- where an answer says that the work is done

@@ -121,10 +121,7 @@ fn put_first_unknown(
 fn put_damage(alloc: Global, out: &mut Text, at: u64) -> Result<(), NoMemory>
     ensures { OnOk result (out.new ≡ out.old ++ damaged_line (decimal at)) }
 {
-    let place = format!(in alloc; "{at}")?;
-    out.push_str("refused 9 Damaged ")?;
-    out.push_str(place.as_str())?;
-    out.push_str("\n")
+    put_number(alloc, out, "refused 9 Damaged", at)
 }
 
 /// What the program is, and that the journal stands for no device, by the fault at this place.

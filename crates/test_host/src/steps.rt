@@ -60,8 +60,8 @@ fn makes_room<D: Disk>(disk: &mut D) -> Result<bool, DiskFault> {
     let again = disk.length("journal")?;
     disk.reserve("journal", first.saturating_add(1))?;
     let longer = disk.length("journal")?;
-    let is_kept = reads(disk, "journal", 0, &[0, 9])?;
-    let is_blank = reads(disk, "journal", first, &[0])?;
+    let is_kept = reads(disk, "journal", 0, &[0, 9, 9, 9, 9, 9, 9, 9])?;
+    let is_blank = reads(disk, "journal", first, &[0; 8])?;
     disk.sync("journal")?;
     Ok(plain == 2 && first >= 2_097_152 && again == first && longer > first && is_kept && is_blank)
 }

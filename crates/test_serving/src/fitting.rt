@@ -122,7 +122,7 @@ fn outcome_at(alloc: Global, store: &MemoryDisk, number: u64) -> Result<Outcome,
 }
 
 /// The outcomes of all calls of the disk, or none where something else comes.
-fn tally(alloc: Global, store: &MemoryDisk) -> Result<Option<Tally>, Fail> {
+fn tally_of(alloc: Global, store: &MemoryDisk) -> Result<Option<Tally>, Fail> {
     let mut tally = Tally { unfit: 0, first: 0 };
     for number in 0..MOST_CALLS {
         match outcome_at(alloc, store, number)? {
@@ -131,7 +131,7 @@ fn tally(alloc: Global, store: &MemoryDisk) -> Result<Option<Tally>, Fail> {
                 if tally.unfit == 0 {
                     tally.first = number;
                 }
-                tally.unfit += 1;
+                tally.unfit = tally.unfit.saturating_add(1);
             }
             Outcome::Ended => {}
             Outcome::Wrong => return Ok(None),
@@ -153,7 +153,7 @@ fn is_unswept(alloc: Global, store: &MemoryDisk, first: u64, later: u64) -> Resu
 
 /// Whether some later call does that.
 fn ends_unswept(alloc: Global, store: &MemoryDisk, first: u64) -> Result<bool, Fail> {
-    for later in first + 1..MOST_CALLS {
+    for later in first.saturating_add(1)..MOST_CALLS {
         if is_unswept(alloc, store, first, later)? {
             return Ok(true);
         }
@@ -184,7 +184,7 @@ fn store(alloc: Global) -> Result<MemoryDisk, Fail> {
 
 /// How often an artifact could not be taken in, and whether the call ended where it could not be swept either.
 fn faults_over(alloc: Global, store: &MemoryDisk) -> Result<Option<(u64, bool)>, Fail> {
-    match tally(alloc, store)? {
+    match tally_of(alloc, store)? {
         Some(tally) => Ok(Some((tally.unfit, ends_unswept(alloc, store, tally.first)?))),
         None => Ok(None),
     }

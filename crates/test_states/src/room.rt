@@ -1,4 +1,5 @@
 // Room is made before a plan is accepted.
+ghost use Rattle.std.specs.Prelude.{◌≡◌};
 ghost use Rattle.device.specs.Devices.{device_view};
 ghost use Rattle.deploy_state.specs.Objects.{OwnsOver};
 ghost use Rattle.deploy_state.specs.States.{OwnsIdle, idle_device};

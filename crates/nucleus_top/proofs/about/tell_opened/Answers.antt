@@ -1,7 +1,7 @@
 use Rattle.std.proofs.Common.{Err, ap}
 use Rattle.deploy_state.specs.States.{loaded_device}
 use Rattle.nucleus_top.specs.Answers.{Store, store_of}
-use Rattle.nucleus_top.proofs.AboutEnds.{fault_told, found_told, other_told}
+use Rattle.nucleus_top.proofs.AboutEnds.{done_unfailed, fault_told, found_told, other_told}
 use Rattle.nucleus_top.proofs.about.tell_opened.Goals as goal
 
 pub tell_stored-requires : goal.tell_stored-requires
@@ -41,7 +41,7 @@ returns-in-Err-clause-moments g c = c.open.ensures.moments
 pub returns-in-Err-clause-keeps : goal.returns-in-Err-clause-keeps
 returns-in-Err-clause-keeps g c = λ done.
     c.in-Err.ensures.settled (λ is. other_told c.args.version.now c.args.counted.now.unknown c.in-Err.fault c.tell_fault.result c.tell_fault.ensures
-    (λ failed. cc) (cc))
+    (done_unfailed c.tell_fault.result done) (cc))
 
 pub returns-in-Err-clause-seen : goal.returns-in-Err-clause-seen
 returns-in-Err-clause-seen g c = c.open.ensures.seen

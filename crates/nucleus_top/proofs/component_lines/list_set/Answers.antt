@@ -1,10 +1,9 @@
 use Rattle.std.proofs.Common.{Err, ap}
-use Rattle.command_words.specs.declared.order.Order.TheVariants as order
 use Rattle.deploy_state.specs.States.{loaded_device}
 use Rattle.nucleus_top.specs.Answers.{Store, store_of}
 use Rattle.nucleus_top.specs.Components.{ListsStopped}
 use Rattle.nucleus_top.proofs.ComponentsEnds.{lists_none}
-use Rattle.nucleus_top.proofs.Faults.{refuses, refused_keeps, other_fault}
+use Rattle.nucleus_top.proofs.Faults.{refuses, other_fault}
 use Rattle.nucleus_top.proofs.Looked.{found_looks, refused_looks}
 use Rattle.nucleus_top.proofs.component_lines.list_set.Goals as goal
 
@@ -16,9 +15,6 @@ returns-in-Ok-clause-comes g c =
 
 pub returns-in-Ok-clause-moments : goal.returns-in-Ok-clause-moments
 returns-in-Ok-clause-moments g c = c.open.ensures.moments
-
-pub returns-in-Ok-clause-keeps : goal.returns-in-Ok-clause-keeps
-returns-in-Ok-clause-keeps g c = λ done. c.in-Ok.ensures.settled (λ is. cc)
 
 pub returns-in-Ok-clause-seen : goal.returns-in-Ok-clause-seen
 returns-in-Ok-clause-seen g c = c.open.ensures.seen
@@ -37,10 +33,6 @@ returns-in-Err-clause-comes g c =
 
 pub returns-in-Err-clause-moments : goal.returns-in-Err-clause-moments
 returns-in-Err-clause-moments g c = c.open.ensures.moments
-
-pub returns-in-Err-clause-keeps : goal.returns-in-Err-clause-keeps
-returns-in-Err-clause-keeps g c =
-    refused_keeps order.Components (g.D.Disk.may_leave c.open.new.disk) (g.D.Disk.seen c.open.new.disk) c.in-Err.fault c.refused.result c.refused.ensures
 
 pub returns-in-Err-clause-seen : goal.returns-in-Err-clause-seen
 returns-in-Err-clause-seen g c = c.open.ensures.seen

@@ -5,7 +5,7 @@ use Rattle.command_words.specs.declared.order.Order.TheVariants as order
 use Rattle.nucleus_top.specs.Leaving.{IsDurable}
 use Rattle.nucleus_top.specs.Answers.{Store, store_of}
 use Rattle.nucleus_top.proofs.Reading.{reads_none}
-use Rattle.nucleus_top.proofs.WorkloadEnds.{asks_other, tells_draws}
+use Rattle.nucleus_top.proofs.WorkloadEnds.{asks_nothing, asks_other, drives_some, tells_draws}
 use Rattle.nucleus_top.proofs.looking.answer.Goals as goal
 
 pub returns-in-Err-Usage-clause-comes : goal.returns-in-Err-Usage-clause-comes
@@ -118,3 +118,18 @@ returns-in-About-clause-alone g c = λ seed asks.
     let words : List (List ℕ) = map string_bytes c.args.words.now.items in
     let was : IsOrder words c.in-Ok._root order.About = grind (arith, c.in-Ok.ensures, c.in-Ok._root-is, c.in-Ok.order-is, c.in-About.is) in
     absurd (asks_other c.words_ask_one_thing.ensures words c.in-Ok._root order.About was (λ s same. cc) seed asks)
+
+pub returns-in-Components-clause-keeps : goal.returns-in-Components-clause-keeps
+returns-in-Components-clause-keeps g c = λ other asks done.
+    let words : List (List ℕ) = map string_bytes c.args.words.now.items in
+    let was : IsOrder words c.in-Ok._root order.Components = grind (arith, c.in-Ok.ensures, c.in-Ok._root-is, c.in-Ok.order-is, c.in-Components.is) in
+    let same : other ≡ order.Components = (c.words_ask_one_thing.ensures words asks.root c.in-Ok._root other order.Components asks.is_order was).1 in
+    subst (λ (o : Order). IsDurable o (g.D.Disk.may_leave c.components.new.disk) (g.D.Disk.seen c.components.new.disk)) (sym same) tt
+
+-- ---- a command that drives components
+
+pub returns-clause-comes : goal.returns-clause-comes
+returns-clause-comes g c =
+    let words : List (List ℕ) = map string_bytes c.args.words.now.items in
+    let was : IsOrder words c.in-Ok._root c.in-Ok.order = grind (arith, c.in-Ok.ensures, c.in-Ok._root-is, c.in-Ok.order-is) in
+    inr (inl (refl, asks_nothing c.words_ask_one_thing.ensures words c.in-Ok._root c.in-Ok.order was (drives_some c.in-Ok.order c.in-Deploy.is), refl))

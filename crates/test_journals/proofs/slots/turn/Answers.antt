@@ -15,5 +15,6 @@ put-requires-2-clause-room g c turns =
     let begun = c.in_ok-begin_turn.ensures.begun was in
     let zero_is : c.begin_turn.new.self.put_end ≡ 0 = begun.0 in
     let nine : length c.start-start.result ≡ 9 = ap length c.start-start.ensures in
-    let first : c.put.new.self.put_end ≡ c.begin_turn.new.self.put_end + 5 + length c.start-start.result = (c.in_ok-put.ensures.is_put [] still begun.1).0 in
+    let first : c.put.new.self.put_end ≡ c.begin_turn.new.self.put_end + 5 + length c.start-start.result = (c.in_ok-put.ensures.is_put [] still
+    (c.reserve_turn.ensures.is_put [] still begun.1)).0 in
     omega (arith, zero_is, nine, first)
