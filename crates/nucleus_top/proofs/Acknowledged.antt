@@ -19,7 +19,7 @@ deployed_stay may_leave moment left_since faults old new old_list new_list print
     acknowledged_last may_leave new h.call.0.prints.printed_records h.lasts first one e stands later follow image left before after plan is
 
 pub served_stay : {D : Type 0} (disk : a_disk.Ghosts D) → ServedStay disk
-served_stay disk content old new result d turns s before after plan is =
+served_stay disk old new result d turns s before after plan is =
     λ first one e stands later follow image left.
     acknowledged_last disk.may_leave new.disk s.printed_records s.lasts first one e stands later follow image left before after plan is
 

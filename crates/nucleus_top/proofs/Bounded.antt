@@ -5,7 +5,6 @@ use Rattle.disk_model.specs.Disk.{Image}
 use Rattle.disk_model.specs.declared.disk.Disk as a_disk
 use Rattle.nuc_base.specs.declared.status.Status.{Status}
 use Rattle.checkpoint_log.specs.Slots.{slots_entries, slots_turn}
-use Rattle.library_core.specs.Library.{Content}
 use Rattle.deploy_state.specs.Turning.{can_turn, front_bytes, plan_bytes, starts_at}
 use Rattle.deploy_state.proofs.Siting.{stays_bounded}
 use Rattle.histories.specs.States.{SessionState}
@@ -60,13 +59,13 @@ module _ {D : Type 0} (disk : a_disk.Ghosts D) where
         ],
       )
 
-  parts_within : (content : Content) (most : ℕ) (old new : Outside D) (p : SessionState) (status : Status) (h : List TraceEvent)
-      (parts : IsHaltedOrServed disk content most old new p status h) → AreAcceptedWithin disk content most old new p status h parts
-  parts_within content most old new p status h (inl halted) = tt
-  parts_within content most old new p status h (inr served) =
+  parts_within : (most : ℕ) (old new : Outside D) (p : SessionState) (status : Status) (h : List TraceEvent)
+      (parts : IsHaltedOrServed disk most old new p status h) → AreAcceptedWithin disk most old new p status h parts
+  parts_within most old new p status h (inl halted) = tt
+  parts_within most old new p status h (inr served) =
       started_more (IsStarted disk slots_ghosts served.2.disk new.disk) (IsAcceptedWithin disk served.2.disk new.disk)
       (within_started served.2.disk new.disk) (served.8.rounds ++ round_of_last served.8.last) served.8.starts
 
   pub serves_within : ServesWithin disk
-  serves_within content old new result d turns s =
-      parts_within content turns (on_disk s.from old) new s.state result s.history s.call.parts
+  serves_within old new result d turns s =
+      parts_within turns (on_disk s.from old) new s.state result s.history s.call.parts

@@ -132,14 +132,14 @@ module _ {D : Type 0} (Clause : Handled → Type 0) (most : ℕ) (rounds : List 
   ends_as last.InboxFailed why = ap may_end why.0
   ends_as last.WantOfMemory why = ap may_end why.0
 
-module _ {D : Type 0} (disk : a_disk.Ghosts D) (content : Content) (old new : Outside D) (result : Status) where
+module _ {D : Type 0} (disk : a_disk.Ghosts D) (old new : Outside D) (result : Status) where
   whole_ends : (most : ℕ) (from : Outside D) (p : SessionState) (h : List TraceEvent)
-      → IsWholeCall disk slots_ghosts (IsDeployedThere content) most from new p h result → may_end result ≡ true
+      → IsWholeCall disk slots_ghosts IsDeployedThere most from new p h result → may_end result ≡ true
   whole_ends most from p h call =
       ⊎_elim (λ halted. ends_with (status_of_ending halted.0.ending) result halted.0.with_status)
-      (λ served. let s = served.8 in ends_as (IsDeployedThere content) most s.rounds result s.to new s.behind s.last s.ends) call.parts
+      (λ served. let s = served.8 in ends_as IsDeployedThere most s.rounds result s.to new s.behind s.last s.ends) call.parts
 
-  pub served_is_on : (store : Store) (turns : ℕ) → IsServed disk content old new result store turns → IsOn store result
+  pub served_is_on : (store : Store) (turns : ℕ) → IsServed disk old new result store turns → IsOn store result
   served_is_on store turns served = record {
     device = served.0;
     found = served.1;

@@ -5,7 +5,6 @@ use Rattle.disk_model.specs.Disk.{Image}
 use Rattle.disk_model.specs.declared.disk.Disk as a_disk
 use Rattle.nuc_base.specs.declared.status.Status.{Status}
 use Rattle.checkpoint_log.specs.Slots.{slots_entries}
-use Rattle.library_core.specs.Library.{Content}
 use Rattle.device.specs.Devices.{Device}
 use Rattle.histories.specs.States.{SessionState, state_after}
 use Rattle.histories.specs.TraceEvents.{TraceEvent, records_of}
@@ -39,17 +38,17 @@ module _ {D : Type 0} (disk : a_disk.Ghosts D) where
   in_doubt now p before g (inl stands) = inl (subst (λ (q : SessionState). AllStandFor disk slots_ghosts now q.device) (sym (left-append p g before)) stands)
   in_doubt now p before g (inr stops) = inr (stops_behind before g stops)
 
-  doubt_of : (content : Content) (most : ℕ) (old new : Outside D) (p : SessionState) (status : Status) (h : List TraceEvent)
-      → IsHaltedOrServed disk content most old new p status h
+  doubt_of : (most : ℕ) (old new : Outside D) (p : SessionState) (status : Status) (h : List TraceEvent)
+      → IsHaltedOrServed disk most old new p status h
       → AllStandFor disk slots_ghosts new.disk (state_after p h).device ⊎ StopsAt h
-  doubt_of content most old new p status h (inl halted) = halted.0.sure.doubt
-  doubt_of content most old new p status h (inr (before, g, to, is, answered, waiting, library, finished, served)) =
+  doubt_of most old new p status h (inl halted) = halted.0.sure.doubt
+  doubt_of most old new p status h (inr (before, g, to, is, answered, waiting, library, finished, served)) =
       subst (λ (l : List TraceEvent). AllStandFor disk slots_ghosts new.disk (state_after p l).device ⊎ StopsAt l) (sym is)
       (in_doubt new.disk p before g served.sure.doubt)
 
   pub serves_reopen : BootStartsStand slots_entries disk.may_leave → FailuresStand slots_entries disk.may_leave → ServesReopen disk
-  serves_reopen boots failures content old new result d turns s =
+  serves_reopen boots failures old new result d turns s =
       reopens disk.may_leave boots failures new.disk s.state s.history s.driven.history (record {
         stands = λ c may. subst (λ (e : Device). StandsForMost slots_entries e (records_of s.history) c) (sym s.driven.device_is) (s.most c may);
-        doubt = doubt_of content turns (on_disk s.from old) new s.state result s.history s.call.parts;
+        doubt = doubt_of turns (on_disk s.from old) new s.state result s.history s.call.parts;
       })

@@ -7,7 +7,6 @@ use Rattle.nuc_base.specs.declared.status.Status.{Status}
 use Rattle.disk_model.specs.Disk.{Image}
 use Rattle.disk_model.specs.declared.disk.Disk as a_disk
 use Rattle.checkpoint_log.specs.Slots.{slots_entries, slots_files}
-use Rattle.library_core.specs.Library.{Content}
 use Rattle.device.specs.Devices.{Device}
 use Rattle.device.specs.Sound.{IsSound}
 use Rattle.device.specs.Lawful.{Run, applied}
@@ -38,6 +37,7 @@ use Rattle.step_runner.specs.Entries.{Told}
 use Rattle.components.specs.Components.{Components}
 use Rattle.histories.specs.TraceEvents.{TraceEvent, records_of}
 use Rattle.session_serving.specs.Documents.{IsDeployedThere}
+use Rattle.session_serving.specs.Libraries.{LibraryState}
 use Rattle.session_serving.specs.Parts.{AreOfFiles, Outside}
 use Rattle.session_serving.specs.States.{IsBegun}
 use Rattle.session_serving.specs.Served.{EndsAs, IsResumedOrIdle, IsSetServed, IsWholeCall}
@@ -65,50 +65,50 @@ brings_on (r ∷ a) b d e run first second =
     (first.0, brings_on a b (applied d r) e (subst (λ (x : Device). Run x a e) run.1.leaves run.2) first.1 second)
 
 -- those of a document, by what is promised of it
-document_brings : TakenAreMet → (content : Content) (x : Handled) → IsSound x.device → IsSome x.device.origin → IsDeployedThere content x →
+document_brings : TakenAreMet → (x : Handled) → IsSound x.device → IsSome x.device.origin → IsDeployedThere x →
     BringMet x.device x.records
-document_brings law content x sound some c =
+document_brings law x sound some c =
     let o = some_of x.device.origin some in
-    read_brings (λ d r. ⊤) x.device o.0 c.told x.before x.after sound x.start c.ending x.records law x.bytes c.taken (c.takes o.0 o.1) c.follows
+    read_brings (λ d r. ⊤) x.device o.0 x.after.content x.before.faults x.after.faults sound x.start c.ending x.records law x.bytes c.taken (c.takes o.0 o.1) c.follows
 
 -- so it is on the device of its round
-there_brings : TakenAreMet → (content : Content) (x : Handled) (d : Device) → x.device ≡ d → IsSound d → IsSome d.origin →
-    IsDeployedThere content x → BringMet d x.records
-there_brings law content x d is sound some c =
+there_brings : TakenAreMet → (x : Handled) (d : Device) → x.device ≡ d → IsSound d → IsSome d.origin →
+    IsDeployedThere x → BringMet d x.records
+there_brings law x d is sound some c =
     subst (λ (y : Device). BringMet y x.records) is
-    (document_brings law content x (subst IsSound (sym is) sound) (subst (λ (y : Device). IsSome y.origin) (sym is) some) c)
+    (document_brings law x (subst IsSound (sym is) sound) (subst (λ (y : Device). IsSome y.origin) (sym is) some) c)
 
-rounds_bring : TakenAreMet → (content : Content) (rounds : List Round) (d : Device) (n f : ℕ) (e : Device) (m g : ℕ) → IsSound d → IsSome d.origin
-    → AreHandled (IsDeployedThere content) d n f rounds e m g → BringMet d (records_of_rounds rounds) × Run d (records_of_rounds rounds) e
-rounds_bring law content [] d n f e m g sound some h = (tt, h.0)
-rounds_bring law content (Waited ∷ rounds) d n f e m g sound some h = rounds_bring law content rounds d n f e m g sound some h
-rounds_bring law content (Took x ∷ rounds) d n f e m g sound some h =
-    let more = rounds_bring law content rounds x.behind x.after x.disk_after e m g (run_sound x.records d x.behind sound h.5)
+rounds_bring : TakenAreMet → (rounds : List Round) (d : Device) (n : LibraryState) (f : ℕ) (e : Device) (m : LibraryState) (g : ℕ) → IsSound d → IsSome d.origin
+    → AreHandled IsDeployedThere d n f rounds e m g → BringMet d (records_of_rounds rounds) × Run d (records_of_rounds rounds) e
+rounds_bring law [] d n f e m g sound some h = (tt, h.0)
+rounds_bring law (Waited ∷ rounds) d n f e m g sound some h = rounds_bring law rounds d n f e m g sound some h
+rounds_bring law (Took x ∷ rounds) d n f e m g sound some h =
+    let more = rounds_bring law rounds x.behind x.after x.disk_after e m g (run_sound x.records d x.behind sound h.5)
     (run_begun x.records d x.behind h.5 some) h.6 in (
-      brings_on x.records (records_of_rounds rounds) d x.behind h.5 (there_brings law content x d h.0 sound some h.4) more.0,
+      brings_on x.records (records_of_rounds rounds) d x.behind h.5 (there_brings law x d h.0 sound some h.4) more.0,
       run_on d x.records x.behind (records_of_rounds rounds) e h.5 more.1,
     )
 
-module _ {D : Type 0} (content : Content) (most : ℕ) (rounds : List Round) (result : Status) (old new : Outside D) (d : Device) where
-  last_brings : TakenAreMet → (l : LastRound) → IsSound d → IsSome d.origin → EndsAs (IsDeployedThere content) most rounds l result old new d →
+module _ {D : Type 0} (most : ℕ) (rounds : List Round) (result : Status) (old new : Outside D) (d : Device) where
+  last_brings : TakenAreMet → (l : LastRound) → IsSound d → IsSome d.origin → EndsAs IsDeployedThere most rounds l result old new d →
       BringMet d (records_of_last l)
   last_brings law Spent sound some why = tt
   last_brings law Shut sound some why = tt
-  last_brings law (StoppedBy x) sound some why = there_brings law content x d why.device sound some why.clause
+  last_brings law (StoppedBy x) sound some why = there_brings law x d why.device sound some why.clause
   last_brings law SweepFailed sound some why = tt
   last_brings law InboxFailed sound some why = tt
   last_brings law WantOfMemory sound some why = tt
 
-module _ {D : Type 0} (disk : a_disk.Ghosts D) (content : Content) (most : ℕ) (old new : Outside D) (p : SessionState) (h : List TraceEvent)
+module _ {D : Type 0} (disk : a_disk.Ghosts D) (most : ℕ) (old new : Outside D) (p : SessionState) (h : List TraceEvent)
     (result : Status) where
   served_brings : TakenAreMet → IsSound p.device → IsSome p.device.origin
-      → IsSetServed disk slots_ghosts (IsDeployedThere content) most old new p h result → BringMet p.device (records_of h)
+      → IsSetServed disk slots_ghosts IsDeployedThere most old new p h result → BringMet p.device (records_of h)
   served_brings law sound some s =
-      let r = rounds_bring law content s.rounds p.device old.library old.faults s.behind s.to.library s.to.faults sound some s.handled in
+      let r = rounds_bring law s.rounds p.device old.library old.faults s.behind s.to.library s.to.faults sound some s.handled in
       let run = r.1 in
       subst (BringMet p.device) (sym s.records)
       (brings_on (records_of_rounds s.rounds) (records_of_last s.last) p.device s.behind run r.0
-      (last_brings content most s.rounds result s.to new s.behind law s.last (run_sound (records_of_rounds s.rounds) p.device s.behind sound run)
+      (last_brings most s.rounds result s.to new s.behind law s.last (run_sound (records_of_rounds s.rounds) p.device s.behind sound run)
       (run_begun (records_of_rounds s.rounds) p.device s.behind run some) s.ends))
 
 -- ---- and what is whole is so
@@ -124,54 +124,54 @@ read_roots trees bytes document reads =
     roots_are_sound bytes reads.0 (Ok document) (trees bytes text_limit reads.0 reads.1) (reads.2, reads.3)
 
 -- those of a document, by what is promised of it
-document_wholes : TreesAreRegular → TakenAreWhole → (content : Content) (x : Handled) → IsSound x.device →
-    IsSome x.device.origin → IsDeployedThere content x →
+document_wholes : TreesAreRegular → TakenAreWhole → (x : Handled) → IsSound x.device →
+    IsSome x.device.origin → IsDeployedThere x →
     BringWhole x.device x.records
-document_wholes trees law content x sound some c =
+document_wholes trees law x sound some c =
     let o = some_of x.device.origin some in
-    read_wholes (λ d r. ⊤) x.device o.0 c.told x.before x.after sound x.start c.ending x.records law c.regular o.1 x.bytes c.taken
+    read_wholes (λ d r. ⊤) x.device o.0 x.after.content x.before.faults x.after.faults sound x.start c.ending x.records law c.regular o.1 x.bytes c.taken
     (read_roots trees x.bytes) (c.takes o.0 o.1) c.follows
 
 -- so it is on the device of its round
-there_wholes : TreesAreRegular → TakenAreWhole → (content : Content) (x : Handled) (d : Device) → x.device ≡ d → IsSound d → IsSome d.origin →
-    IsDeployedThere content x → BringWhole d x.records
-there_wholes trees law content x d is sound some c =
+there_wholes : TreesAreRegular → TakenAreWhole → (x : Handled) (d : Device) → x.device ≡ d → IsSound d → IsSome d.origin →
+    IsDeployedThere x → BringWhole d x.records
+there_wholes trees law x d is sound some c =
     subst (λ (y : Device). BringWhole y x.records) is
-    (document_wholes trees law content x (subst IsSound (sym is) sound) (subst (λ (y : Device). IsSome y.origin) (sym is) some) c)
+    (document_wholes trees law x (subst IsSound (sym is) sound) (subst (λ (y : Device). IsSome y.origin) (sym is) some) c)
 
-rounds_whole : TreesAreRegular → TakenAreWhole → (content : Content) (rounds : List Round) (d : Device) (n f : ℕ) (e : Device) (m g : ℕ) →
+rounds_whole : TreesAreRegular → TakenAreWhole → (rounds : List Round) (d : Device) (n : LibraryState) (f : ℕ) (e : Device) (m : LibraryState) (g : ℕ) →
     IsSound d → IsSome d.origin
-    → AreHandled (IsDeployedThere content) d n f rounds e m g → BringWhole d (records_of_rounds rounds) × Run d (records_of_rounds rounds) e
-rounds_whole trees law content [] d n f e m g sound some h = (tt, h.0)
-rounds_whole trees law content (Waited ∷ rounds) d n f e m g sound some h = rounds_whole trees law content rounds d n f e m g sound some h
-rounds_whole trees law content (Took x ∷ rounds) d n f e m g sound some h =
-    let more = rounds_whole trees law content rounds x.behind x.after x.disk_after e m g (run_sound x.records d x.behind sound h.5)
+    → AreHandled IsDeployedThere d n f rounds e m g → BringWhole d (records_of_rounds rounds) × Run d (records_of_rounds rounds) e
+rounds_whole trees law [] d n f e m g sound some h = (tt, h.0)
+rounds_whole trees law (Waited ∷ rounds) d n f e m g sound some h = rounds_whole trees law rounds d n f e m g sound some h
+rounds_whole trees law (Took x ∷ rounds) d n f e m g sound some h =
+    let more = rounds_whole trees law rounds x.behind x.after x.disk_after e m g (run_sound x.records d x.behind sound h.5)
     (run_begun x.records d x.behind h.5 some) h.6 in (
-      wholes_on x.records (records_of_rounds rounds) d x.behind h.5 (there_wholes trees law content x d h.0 sound some h.4) more.0,
+      wholes_on x.records (records_of_rounds rounds) d x.behind h.5 (there_wholes trees law x d h.0 sound some h.4) more.0,
       run_on d x.records x.behind (records_of_rounds rounds) e h.5 more.1,
     )
 
-module _ {D : Type 0} (content : Content) (most : ℕ) (rounds : List Round) (result : Status) (old new : Outside D) (d : Device) where
+module _ {D : Type 0} (most : ℕ) (rounds : List Round) (result : Status) (old new : Outside D) (d : Device) where
   last_wholes : TreesAreRegular → TakenAreWhole → (l : LastRound) → IsSound d → IsSome d.origin →
-      EndsAs (IsDeployedThere content) most rounds l result old new d →
+      EndsAs IsDeployedThere most rounds l result old new d →
       BringWhole d (records_of_last l)
   last_wholes trees law Spent sound some why = tt
   last_wholes trees law Shut sound some why = tt
-  last_wholes trees law (StoppedBy x) sound some why = there_wholes trees law content x d why.device sound some why.clause
+  last_wholes trees law (StoppedBy x) sound some why = there_wholes trees law x d why.device sound some why.clause
   last_wholes trees law SweepFailed sound some why = tt
   last_wholes trees law InboxFailed sound some why = tt
   last_wholes trees law WantOfMemory sound some why = tt
 
-module _ {D : Type 0} (disk : a_disk.Ghosts D) (content : Content) (most : ℕ) (old new : Outside D) (p : SessionState) (h : List TraceEvent)
+module _ {D : Type 0} (disk : a_disk.Ghosts D) (most : ℕ) (old new : Outside D) (p : SessionState) (h : List TraceEvent)
     (result : Status) where
   served_wholes : TreesAreRegular → TakenAreWhole → IsSound p.device → IsSome p.device.origin
-      → IsSetServed disk slots_ghosts (IsDeployedThere content) most old new p h result → BringWhole p.device (records_of h)
+      → IsSetServed disk slots_ghosts IsDeployedThere most old new p h result → BringWhole p.device (records_of h)
   served_wholes trees law sound some s =
-      let r = rounds_whole trees law content s.rounds p.device old.library old.faults s.behind s.to.library s.to.faults sound some s.handled in
+      let r = rounds_whole trees law s.rounds p.device old.library old.faults s.behind s.to.library s.to.faults sound some s.handled in
       let run = r.1 in
       subst (BringWhole p.device) (sym s.records)
       (wholes_on (records_of_rounds s.rounds) (records_of_last s.last) p.device s.behind run r.0
-      (last_wholes content most s.rounds result s.to new s.behind trees law s.last (run_sound (records_of_rounds s.rounds) p.device s.behind sound run)
+      (last_wholes most s.rounds result s.to new s.behind trees law s.last (run_sound (records_of_rounds s.rounds) p.device s.behind sound run)
       (run_begun (records_of_rounds s.rounds) p.device s.behind run some) s.ends))
 
 -- a pending deployment accepts no plan, and where none is pending there is no record
@@ -180,8 +180,8 @@ finished_once : (d : Device) (records : List Record) (behind : Device) (lines : 
 finished_once d records behind lines ending (inl r) = r.1.once
 finished_once d records behind lines ending (inr none) = subst (TakesOnce true) (sym none.1) tt
 
-module _ {D : Type 0} (disk : a_disk.Ghosts D) (content : Content) (old new : Outside D) (turns : ℕ) (d : Device) (told : Told) (h : List TraceEvent)
-    (result : Status) (call : IsWholeCall disk slots_ghosts (IsDeployedThere content) turns old new (begun_as true turns d told) h result)
+module _ {D : Type 0} (disk : a_disk.Ghosts D) (old new : Outside D) (turns : ℕ) (d : Device) (told : Told) (h : List TraceEvent)
+    (result : Status) (call : IsWholeCall disk slots_ghosts IsDeployedThere turns old new (begun_as true turns d told) h result)
     (sound : IsSound d) (some : IsSome d.origin) where
   whole_brings : TakenAreMet → BringMet d (records_of h)
   whole_brings law =
@@ -196,7 +196,7 @@ module _ {D : Type 0} (disk : a_disk.Ghosts D) (content : Content) (old new : Ou
       subst (λ (l : List TraceEvent). BringMet d (records_of l)) (sym s.3) (subst (BringMet d) (sym (records-append g before))
       (brings_on (records_of before) (records_of g) d q.device f.goes.run
       (once_brings d (records_of before) (finished_once d (records_of before) q.device f.lines f.ending f.first))
-      (served_brings disk content turns to new q g result law (run_sound (records_of before) d q.device sound f.goes.run)
+      (served_brings disk turns to new q g result law (run_sound (records_of before) d q.device sound f.goes.run)
       (run_begun (records_of before) d q.device f.goes.run some) s.8)))) call.parts
 
   pub serving_meets : TakenAreMet → StayMet d (records_of h)
@@ -215,7 +215,7 @@ module _ {D : Type 0} (disk : a_disk.Ghosts D) (content : Content) (old new : Ou
       subst (λ (l : List TraceEvent). BringWhole d (records_of l)) (sym s.3) (subst (BringWhole d) (sym (records-append g before))
       (wholes_on (records_of before) (records_of g) d q.device f.goes.run
       (once_wholes d (records_of before) (finished_once d (records_of before) q.device f.lines f.ending f.first))
-      (served_wholes disk content turns to new q g result trees law (run_sound (records_of before) d q.device sound f.goes.run)
+      (served_wholes disk turns to new q g result trees law (run_sound (records_of before) d q.device sound f.goes.run)
       (run_begun (records_of before) d q.device f.goes.run some) s.8)))) call.parts
 
   pub serving_wholes : TreesAreRegular → TakenAreWhole → StayWhole d (records_of h)

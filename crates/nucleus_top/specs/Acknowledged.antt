@@ -3,7 +3,6 @@ use Rattle.std.specs.Prelude.{◌≡◌, ℕ, List, ◌∷◌, ◌++◌, Option}
 use Rattle.disk_model.specs.Disk.{Image}
 use Rattle.disk_model.specs.declared.disk.Disk as a_disk
 use Rattle.nuc_base.specs.declared.status.Status.{Status}
-use Rattle.library_core.specs.Library.{Content}
 use Rattle.records.specs.Stored.{Accepted, Plan, Record}
 use Rattle.device.specs.After.{course}
 use Rattle.device.specs.Devices.{Device}
@@ -37,5 +36,5 @@ DeployedStay {D} may_leave moment left_since faults = (old new : D) (old_list ne
 
 -- `serve`
 abbrev pub ServedStay : {D : Type 0} → a_disk.Ghosts D → Type 0
-ServedStay {D} disk = (content : Content) (old new : Outside D) (result : Status) (d : Device) (turns : ℕ)
-    → (s : IsServedOn disk content old new result d turns) → AllStayTaken (disk.may_leave new.disk) s.printed_records
+ServedStay {D} disk = (old new : Outside D) (result : Status) (d : Device) (turns : ℕ)
+    → (s : IsServedOn disk old new result d turns) → AllStayTaken (disk.may_leave new.disk) s.printed_records

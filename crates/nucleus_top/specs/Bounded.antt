@@ -7,7 +7,6 @@ use Rattle.disk_model.specs.declared.disk.Disk as a_disk
 use Rattle.nuc_base.specs.Faults.{Rose}
 use Rattle.nuc_base.specs.declared.status.Status.{Status}
 use Rattle.checkpoint_log.specs.Slots.{slots_entries, slots_turn}
-use Rattle.library_core.specs.Library.{Content}
 use Rattle.records.specs.Stored.{Accepted, Plan, Record}
 use Rattle.device.specs.Devices.{Device}
 use Rattle.deploy_state.specs.Turning.{can_turn, front_bytes, plan_bytes}
@@ -55,13 +54,13 @@ module _ {D : Type 0} (disk : a_disk.Ghosts D) where
       HasAcceptedTo slots_entries disk.may_leave disk.moment disk.left_since old new x.device plan end))
 
   -- and with each that is handled
-  abbrev pub AreAcceptedWithin : (content : Content) (most : ℕ) (old new : Outside D) (p : SessionState) (status : Status) (h : List TraceEvent) →
-      IsHaltedOrServed disk content most old new p status h → Type 0
-  AreAcceptedWithin content most old new p status h (inl halted) = ⊤
-  AreAcceptedWithin content most old new p status h (inr served) =
+  abbrev pub AreAcceptedWithin : (most : ℕ) (old new : Outside D) (p : SessionState) (status : Status) (h : List TraceEvent) →
+      IsHaltedOrServed disk most old new p status h → Type 0
+  AreAcceptedWithin most old new p status h (inl halted) = ⊤
+  AreAcceptedWithin most old new p status h (inr served) =
       AreStarted (IsAcceptedWithin served.2.disk new.disk) (served.8.rounds ++ round_of_last served.8.last)
 
   abbrev pub ServesWithin : Type 0
-  ServesWithin = (content : Content) (old new : Outside D) (result : Status) (d : Device) (turns : ℕ)
-      (s : IsServedOn disk content old new result d turns)
-      → AreAcceptedWithin content turns (on_disk s.from old) new s.state result s.history s.call.parts
+  ServesWithin = (old new : Outside D) (result : Status) (d : Device) (turns : ℕ)
+      (s : IsServedOn disk old new result d turns)
+      → AreAcceptedWithin turns (on_disk s.from old) new s.state result s.history s.call.parts

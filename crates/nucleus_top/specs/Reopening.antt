@@ -5,7 +5,6 @@ use Rattle.nuc_base.specs.declared.kinds.Step.{Step}
 use Rattle.nuc_base.specs.declared.status.Status.{Status}
 use Rattle.disk_model.specs.Disk.{Image}
 use Rattle.disk_model.specs.declared.disk.Disk as a_disk
-use Rattle.library_core.specs.Library.{Content}
 use Rattle.device.specs.Devices.{Device}
 use Rattle.checkpoint_log.specs.Slots.{slots_entries, slots_files}
 use Rattle.records.specs.Stored.{StepFailed}
@@ -40,5 +39,5 @@ module _ {D : Type 0} (may_leave : D → Image → Type 0) where
 
 -- and with each call that serves
 abbrev pub ServesReopen : {D : Type 0} → a_disk.Ghosts D → Type 0
-ServesReopen {D} disk = (content : Content) (old new : Outside D) (result : Status) (d : Device) (turns : ℕ)
-    (s : IsServedOn disk content old new result d turns) → RecordsReopened disk.may_leave new.disk s.state s.history
+ServesReopen {D} disk = (old new : Outside D) (result : Status) (d : Device) (turns : ℕ)
+    (s : IsServedOn disk old new result d turns) → RecordsReopened disk.may_leave new.disk s.state s.history

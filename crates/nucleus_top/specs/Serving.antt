@@ -9,7 +9,6 @@ use Rattle.disk_model.specs.declared.disk.Disk as a_disk
 use Rattle.gate_log.specs.declared.journal.Journal as a_journal
 use Rattle.checkpoint_log.specs.Slots.{slots_damaged, slots_entries, slots_files, slots_none, slots_put, slots_put_room, slots_room, slots_stands, slots_turn}
 use Rattle.checkpoint_log.specs.declared.slots.Slots.{Slots}
-use Rattle.library_core.specs.Library.{Content}
 use Rattle.artifact_store.specs.Swept.{IsSwept, items_of}
 use Rattle.device.specs.Devices.{Device}
 use Rattle.records.specs.Stored.{Record}
@@ -83,14 +82,14 @@ pub record IsInOrder (most : ℕ) (rounds : List Round) (last : LastRound) (stat
   -- A document is refused for the library at most as often as that failed.
   pub library : RoseBy (library_refusals (rounds ++ round_of_last last)) before after
 
-module _ {D : Type 0} (disk : a_disk.Ghosts D) (content : Content) (most : ℕ) (old new : Outside D) (p : SessionState) (status : Status) where
+module _ {D : Type 0} (disk : a_disk.Ghosts D) (most : ℕ) (old new : Outside D) (p : SessionState) (status : Status) where
   -- Either the pending deployment ends the call, or the set is served from where that was finished.
   abbrev pub IsHaltedOrServed : List TraceEvent → Type 0
   IsHaltedOrServed h = (IsHalted disk slots_ghosts old new p h status × (new.answered ≡ old.answered) × (new.waiting ≡ old.waiting) ×
       (new.library ≡ old.library))
       ⊎ ((before g : List TraceEvent) × (to : Outside D) × (h ≡ g ++ before) × (to.answered ≡ old.answered) × (to.waiting ≡ old.waiting)
       × (to.library ≡ old.library) × IsFinished disk slots_ghosts old to p before
-      × IsSetServed disk slots_ghosts (IsDeployedThere content) most to new (state_after p before) g status)
+      × IsSetServed disk slots_ghosts IsDeployedThere most to new (state_after p before) g status)
 
   -- the records whose line is perhaps not written
   abbrev pub unprinted_of : (h : List TraceEvent) → IsHaltedOrServed h → List Record
@@ -100,9 +99,9 @@ module _ {D : Type 0} (disk : a_disk.Ghosts D) (content : Content) (most : ℕ) 
   -- By its rounds it ends; or the pending deployment ends it, which gives up, or asks for a restart or a reboot.
   abbrev pub EndsInOrder : (h : List TraceEvent) → IsHaltedOrServed h → Type 0
   EndsInOrder h (inl halted) = EndsCall status
-  EndsInOrder h (inr served) = IsInOrder most served.8.rounds served.8.last status old.library new.library
+  EndsInOrder h (inr served) = IsInOrder most served.8.rounds served.8.last status old.library.faults new.library.faults
 
-module _ {D : Type 0} (disk : a_disk.Ghosts D) (content : Content) (old new : Outside D) (result : Status) where
+module _ {D : Type 0} (disk : a_disk.Ghosts D) (old new : Outside D) (result : Status) where
   -- From the start of a call with this device that is to take so many turns. Stray files are swept. Then its pending deployment goes on,
   -- where it has one, and either ends the call, or closes and the set is served: it is brought up, and one round after another the inbox
   -- is asked once. Each document is that which came next, and has what is promised of one, for the device of its round; a fault of the disk or want
@@ -120,11 +119,11 @@ module _ {D : Type 0} (disk : a_disk.Ghosts D) (content : Content) (old new : Ou
     pub swept : IsTrue disk.is_modelled → IsSwept (items_of d) (disk.seen from)
     -- at the end each image stands for the device of all records, or of all but the last
     pub most : (c : Image) → disk.may_leave new.disk c → StandsForMost slots_entries d (records_of history) c
-    pub call : IsWholeCall disk slots_ghosts (IsDeployedThere content) turns (on_disk from old) new state history result
-    pub in_order : EndsInOrder disk content turns (on_disk from old) new state result history call.parts
+    pub call : IsWholeCall disk slots_ghosts IsDeployedThere turns (on_disk from old) new state history result
+    pub in_order : EndsInOrder disk turns (on_disk from old) new state result history call.parts
     -- what was printed lasts
     pub printed_records : List Record
-    pub printed_are : records_of history ≡ printed_records ++ unprinted_of disk content turns (on_disk from old) new state result history call.parts
+    pub printed_are : records_of history ≡ printed_records ++ unprinted_of disk turns (on_disk from old) new state result history call.parts
     pub lasts : AreLasting (disk.may_leave new.disk) printed_records
 
   -- so it is with the device for which the journal stands, where the disk tells it

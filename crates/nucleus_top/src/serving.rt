@@ -1,7 +1,6 @@
 // The command that keeps a set up, and deploys what an inbox has.
 ghost use Rattle.std.specs.Prelude.{◌≡◌, ◌⊎◌, []};
 ghost use Rattle.checkpoint_log.specs.Slots.{slots_files};
-ghost use Rattle.library_core.specs.Library.{StaysTold};
 ghost use Rattle.nucleus_top.specs.Answers.{store_over};
 ghost use Rattle.nucleus_top.specs.Drives.{MayNotOpen};
 ghost use Rattle.nucleus_top.specs.Serving.{IsQuietBefore, IsServed};
@@ -22,8 +21,8 @@ use step_runner::Runner;
 use supervisor::Supervisor;
 use tree_core::tree_laws;
 
-/// Drives the pending deployment on, where there is one, and then keeps the set up and deploys the documents of the inbox, for
-/// so many turns or until the inbox is closed.
+/// Drives the pending deployment on, where there is one, and then keeps the set up and deploys the documents of the inbox, each by what
+/// the library holds in its turn, for so many turns or until the inbox is closed.
 pub(crate) fn serve<D: Disk, L: Library, I: Inbox, K: Sink, R: Runner>(
     alloc: Global,
     turns: u32,
@@ -37,12 +36,11 @@ pub(crate) fn serve<D: Disk, L: Library, I: Inbox, K: Sink, R: Runner>(
     ensures ran { (IsRefusedOver D.Disk K.Sink disk.old disk.new sink.old sink.new result (λ store answer. MayNotOpen store answer)
         × (runner.new ≡ runner.old) × (library.new ≡ library.old) × (inbox.new ≡ inbox.old)
         × IsQuietBefore (store_over D.Disk disk.old disk.new) result)
-        ⊎ IsServed D.Disk (L.content library.old)
+        ⊎ IsServed D.Disk
         (outside D.Disk K.Sink R.Runner L.Library I.Inbox disk.old sink.old runner.old library.old inbox.old)
         (outside D.Disk K.Sink R.Runner L.Library I.Inbox disk.new sink.new runner.new library.new inbox.new)
         result (store_over D.Disk disk.old disk.new) turns }
     ensures none { R.living runner.new ≡ [] }
-    ensures kept { StaysTold L.content L.coming library.old library.new }
     ensures caused { IsCaused D.is_modelled slots_files result
         (observation D.Disk K.Sink L.Library I.Inbox disk.old sink.old library.old inbox.old)
         (observation D.Disk K.Sink L.Library I.Inbox disk.new sink.new library.new inbox.new) }

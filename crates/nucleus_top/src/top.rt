@@ -62,9 +62,10 @@ use step_runner::Runner;
 /// not there or that no group requires with 19. The clauses are those of `deploy`, for what the words ask to deploy.
 ///
 /// `nucleus --root DIR serve --turns N` goes on with a pending deployment as `resume` does, then brings the set up and keeps it up,
-/// and deploys the documents of the inbox one after another, for N turns or until the inbox is closed (`session_serving`). A document
-/// that is refused, or whose deployment fails, is a line, and the call goes on. The clauses `serves`, `refused` and `causes` say of it
-/// what happens, when the refusals of a journal come, and when 5 and 6. It reads nothing of the source.
+/// and deploys the documents of the inbox one after another, for N turns or until the inbox is closed (`session_serving`). The library is
+/// refreshed once for each of them, and what it holds from there on is what that document is deployed by. A document that is refused, or
+/// whose deployment fails, is a line, and the call goes on. The clauses `serves`, `refused` and `causes` say of it what happens, when the
+/// refusals of a journal come, and when 5 and 6. It reads nothing of the source.
 pub fn nucleus<D: Disk, L: Library, S: Source, I: Inbox, K: Sink, R: Runner>(
     alloc: Global,
     version: &str,
@@ -91,7 +92,8 @@ pub fn nucleus<D: Disk, L: Library, S: Source, I: Inbox, K: Sink, R: Runner>(
     ensures uninboxed { (AsksToServe (map string_bytes words.now.items) → ⊥) → inbox.new ≡ inbox.old }
     // `workload` does not touch the disk.
     ensures alone { (seed : ℕ) → AsksOrder (map string_bytes words.now.items) (order.Workload seed) → disk.new ≡ disk.old }
-    ensures library_kept { StaysTold L.content L.coming library.old library.new }
+    // Of all but `serve`, none of which refreshes the library: what it tells stays told, and so does what is to come.
+    ensures library_kept { (AsksToServe (map string_bytes words.now.items) → ⊥) → StaysTold L.content L.coming library.old library.new }
     // Whenever a crash comes during the call, it leaves an image that the start allowed, or what the command may make of one.
     ensures moments { (AsksToDrive (map string_bytes words.now.items) → ⊥) → HasLeft D.moment D.left_since disk.old disk.new
         (MayLeave (map string_bytes words.now.items) (D.may_leave disk.old)) }
@@ -114,12 +116,13 @@ pub fn nucleus<D: Disk, L: Library, S: Source, I: Inbox, K: Sink, R: Runner>(
     ensures resumes { (root : List ℕ) → IsOrder (map string_bytes words.now.items) root order.Resume →
         (IsRefusedOver D.Disk K.Sink disk.old disk.new sink.old sink.new result (λ store answer. MayNotOpen store answer) × (runner.new ≡ runner.old))
         ⊎ IsResumedOver D.Disk K.Sink R.Runner disk.old disk.new sink.old sink.new runner.old runner.new result }
-    // `serve`: so it is with the pending deployment, where there is one, and then with the set and the documents of the inbox.
+    // `serve`: so it is with the pending deployment, where there is one, and then with the set and the documents of the inbox. Each is
+    // taken in by what the library holds behind its refresh, which is the first of what was to come.
     ensures serves { (turns : ℕ) → AsksToServeTurns (map string_bytes words.now.items) turns →
         (IsRefusedOver D.Disk K.Sink disk.old disk.new sink.old sink.new result (λ store answer. MayNotOpen store answer)
         × (runner.new ≡ runner.old) × (library.new ≡ library.old) × (inbox.new ≡ inbox.old)
         × IsQuietBefore (store_over D.Disk disk.old disk.new) result)
-        ⊎ IsServed D.Disk (L.content library.old)
+        ⊎ IsServed D.Disk
         (outside D.Disk K.Sink R.Runner L.Library I.Inbox disk.old sink.old runner.old library.old inbox.old)
         (outside D.Disk K.Sink R.Runner L.Library I.Inbox disk.new sink.new runner.new library.new inbox.new)
         result (store_over D.Disk disk.old disk.new) turns }

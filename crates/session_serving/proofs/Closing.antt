@@ -7,7 +7,6 @@ use Rattle.nuc_base.specs.declared.status.Status.{Status}
 use Rattle.nuc_base.specs.declared.status.Status.TheVariants as statuses
 use Rattle.disk_model.specs.declared.disk.Disk as a_disk
 use Rattle.gate_log.specs.declared.journal.Journal as a_journal
-use Rattle.library_core.specs.Library.{Content}
 use Rattle.records.specs.Stored.{Record, Closed}
 use Rattle.device.specs.Devices.{Device}
 use Rattle.histories.specs.Courses.{gives_up, is_restart}
@@ -16,6 +15,7 @@ use Rattle.histories.specs.TraceEvents.{TraceEvent, records_of}
 use Rattle.session.specs.Endings.{Ending, BySinkFault, ByClose, ByDecline, ByDiskFault, WantAfter, Full, Idle as NothingPending, ByReboot}
 use Rattle.session.specs.Endings.{ByRestart, WantBefore, status_of_ending}
 use Rattle.session_serving.specs.Documents.{IsOwnOrEdge, IsDeployedThere, RecordsEnd}
+use Rattle.session_serving.specs.Libraries.{LibraryState}
 use Rattle.session_serving.specs.Parts.{Outside}
 use Rattle.session_serving.specs.Rounds.{AreHandled, GoesOn, Handled, LastRound, Round, Shut, Spent, StoppedBy, SweepFailed, Took, Waited, InboxFailed}
 use Rattle.session_serving.specs.Rounds.{WantOfMemory}
@@ -69,37 +69,35 @@ closed_both a b one (inr c) =
     inr (c.0, (a ++ c.1.0, ap (λ (l : List Record). a ++ l) c.1.1 ∙ sym (append_assoc a c.1.0 (Closed c.0 ∷ []))))
 closed_both a b one (inl none) = subst (λ (l : List Record). AreClosed (a ++ l)) (sym none) (subst AreClosed (sym (append-nil a)) one)
 
-module _ (content : Content) where
-  rounds_closed : (rounds : List Round) (d : Device) (n f : ℕ) (e : Device) (m g : ℕ) → AreHandled (IsDeployedThere content) d n f rounds e m g →
-      AreClosed (records_of_rounds rounds)
-  rounds_closed [] d n f e m g h = inl refl
-  rounds_closed (Waited ∷ rounds) d n f e m g h = rounds_closed rounds d n f e m g h
-  rounds_closed (Took x ∷ rounds) d n f e m g h =
-      closed_both x.records (records_of_rounds rounds) (round_closed x h.4.ending h.3 h.4.status h.4.ends)
-      (rounds_closed rounds x.behind x.after x.disk_after e m g h.6)
+rounds_closed : (rounds : List Round) (d : Device) (n : LibraryState) (f : ℕ) (e : Device) (m : LibraryState) (g : ℕ) →
+    AreHandled IsDeployedThere d n f rounds e m g → AreClosed (records_of_rounds rounds)
+rounds_closed [] d n f e m g h = inl refl
+rounds_closed (Waited ∷ rounds) d n f e m g h = rounds_closed rounds d n f e m g h
+rounds_closed (Took x ∷ rounds) d n f e m g h =
+    closed_both x.records (records_of_rounds rounds) (round_closed x h.4.ending h.3 h.4.status h.4.ends)
+    (rounds_closed rounds x.behind x.after x.disk_after e m g h.6)
 
-  last_closed : {D : Type 0} (most : ℕ) (rounds : List Round) (last : LastRound) (old new : Outside D) (d : Device) →
-      EndsAs (IsDeployedThere content) most rounds last statuses.Memory old new d → AreClosed (records_of_last last)
-  last_closed most rounds Spent old new d ends = inl refl
-  last_closed most rounds Shut old new d ends = inl refl
-  last_closed most rounds (StoppedBy x) old new d ends = absurd (ends.memory refl)
-  last_closed most rounds SweepFailed old new d ends = inl refl
-  last_closed most rounds InboxFailed old new d ends = inl refl
-  last_closed most rounds WantOfMemory old new d ends = inl refl
-
-  module _ {D J : Type 0} (disk : a_disk.Ghosts D) (journal : a_journal.Ghosts J) where
-    served_closed : (most : ℕ) (old new : Outside D) (p : SessionState) (h : List TraceEvent) →
-        IsSetServed disk journal (IsDeployedThere content) most old new p h statuses.Memory → AreClosed (records_of h)
-    served_closed most old new p h s = subst AreClosed (sym s.records)
-        (closed_both (records_of_rounds s.rounds) (records_of_last s.last) (rounds_closed s.rounds p.device old.library old.faults s.behind s.to.library s.to.faults s.handled)
-        (last_closed most s.rounds s.last s.to new s.behind s.ends))
-
-    pub served_memory : (most : ℕ) (old new : Outside D) (p : SessionState) (h : List TraceEvent) (status : Status) →
-        IsSetServed disk journal (IsDeployedThere content) most old new p h status → status ≡ statuses.Memory → AreClosed (records_of h)
-    served_memory most old new p h status s is =
-        served_closed most old new p h (subst (λ (z : Status). IsSetServed disk journal (IsDeployedThere content) most old new p h z) is s)
+last_closed : {D : Type 0} (most : ℕ) (rounds : List Round) (last : LastRound) (old new : Outside D) (d : Device) →
+    EndsAs IsDeployedThere most rounds last statuses.Memory old new d → AreClosed (records_of_last last)
+last_closed most rounds Spent old new d ends = inl refl
+last_closed most rounds Shut old new d ends = inl refl
+last_closed most rounds (StoppedBy x) old new d ends = absurd (ends.memory refl)
+last_closed most rounds SweepFailed old new d ends = inl refl
+last_closed most rounds InboxFailed old new d ends = inl refl
+last_closed most rounds WantOfMemory old new d ends = inl refl
 
 module _ {D J : Type 0} (disk : a_disk.Ghosts D) (journal : a_journal.Ghosts J) where
+  served_closed : (most : ℕ) (old new : Outside D) (p : SessionState) (h : List TraceEvent) →
+      IsSetServed disk journal IsDeployedThere most old new p h statuses.Memory → AreClosed (records_of h)
+  served_closed most old new p h s = subst AreClosed (sym s.records)
+      (closed_both (records_of_rounds s.rounds) (records_of_last s.last) (rounds_closed s.rounds p.device old.library old.faults s.behind s.to.library s.to.faults s.handled)
+      (last_closed most s.rounds s.last s.to new s.behind s.ends))
+
+  pub served_memory : (most : ℕ) (old new : Outside D) (p : SessionState) (h : List TraceEvent) (status : Status) →
+      IsSetServed disk journal IsDeployedThere most old new p h status → status ≡ statuses.Memory → AreClosed (records_of h)
+  served_memory most old new p h status s is =
+      served_closed most old new p h (subst (λ (z : Status). IsSetServed disk journal IsDeployedThere most old new p h z) is s)
+
   -- behind a pending deployment that was finished
   pub finished_closed : (old new : Outside D) (p : SessionState) (h : List TraceEvent) → IsFinished disk journal old new p h → AreClosed (records_of h)
   finished_closed old new p h f = by f.first

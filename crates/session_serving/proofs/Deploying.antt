@@ -15,7 +15,7 @@ use Rattle.edges.specs.Pieces.{AppendsPrefix}
 use Rattle.nuc_base.specs.Faults.{Rose}
 use Rattle.nuc_base.specs.declared.status.Status.{Status}
 use Rattle.nuc_base.specs.declared.status.Status.TheVariants as statuses
-use Rattle.library_core.specs.Library.{Content, Extends}
+use Rattle.library_core.specs.Library.{Content, Extends, IsRefreshed}
 use Rattle.records.specs.Stored.{Record}
 use Rattle.records.specs.declared.record.Origin.{Origin}
 use Rattle.records.specs.declared.record.Plan as code
@@ -58,6 +58,7 @@ use Rattle.session.specs.declared.ran.Ran.TheVariants as ran
 use Rattle.session.specs.declared.ran.Standing.{Standing}
 use Rattle.session.specs.declared.ran.Standing.TheVariants as standings
 use Rattle.session_serving.specs.Documents.{IsOwnOrEdge, IsDeployedThere, IsEnded, IsHandled, IsOf, RecordsEnd, served_line, no_memory_line, want_line}
+use Rattle.session_serving.specs.Libraries.{IsRefreshedOnce, LibraryState}
 use Rattle.session_serving.specs.Parts.{AllStandFor, AreOfFiles, HistoryKept, HoldsOn, IsStarted, Outside, IsStartShown}
 use Rattle.session_serving.specs.States.{IsAsked, IsUnopened}
 use Rattle.session_serving.specs.Rounds.{Handled}
@@ -283,13 +284,25 @@ failing_is (ByDecline x) on = absurd (false≢true on)
 failing_is (Full at) on = absurd (false≢true on)
 failing_is NothingPending on = absurd (false≢true on)
 
+-- ---- what the library holds
+
+-- what is to come stays as it is until the next refresh
+pub refreshed_stays : (old : LibraryState) (content : Content) (coming later : Option (List Content)) →
+    IfSome old.coming (λ next. IsRefreshed next old.content content coming) → content.tells ≡ old.content.tells → later ≡ coming →
+    IsRefreshedOnce old content later
+refreshed_stays old content coming later holds tells same = record {
+  holds = subst (λ (o : Option (List Content)). IfSome old.coming (λ next. IsRefreshed next old.content content o)) (sym same) holds;
+  tells = tells;
+}
+
 -- ---- the whole of one document
 
 module _ {D J : Type 0} (disk : a_disk.Ghosts D) (journal : a_journal.Ghosts J)
     (laws : DiskLaws disk.is_modelled disk.seen disk.may_leave disk.moment disk.left_since)
     (own : JournalLaws journal.files journal.entries journal.holds_none journal.is_damaged journal.stands journal.end) (apart : LieElsewhere journal.files)
-    (files_own : AreOfFiles journal.files journal.entries) (content telling : Content) (extends : Extends content telling) (idle : Idle J) (bytes : List ℕ) (old new : Outside D)
-    (held : OwnsOver disk journal OwnsIdle idle old.disk) (p : SessionState) (world : Components) (told : Told) (living : List ℕ)
+    (files_own : AreOfFiles journal.files journal.entries) (content : Content) (count : ℕ) (idle : Idle J) (bytes : List ℕ) (old new : Outside D)
+    (refreshed : IsRefreshedOnce old.library content new.library.coming) (extends : Extends content new.library.content)
+    (uncounted : count ≡ old.library.faults) (held : OwnsOver disk journal OwnsIdle idle old.disk) (p : SessionState) (world : Components) (told : Told) (living : List ℕ)
     (asked : IsAsked document p (idle_device idle) world told living) where
   abbrev Start : ℕ → ℕ
   Start = start_of journal.end journal.number journal.turns (idle_log idle) (idle_device idle)
@@ -312,10 +325,10 @@ module _ {D J : Type 0} (disk : a_disk.Ghosts D) (journal : a_journal.Ghosts J)
       (part : Part journal.entries journal.files disk.may_leave disk.moment disk.left_since old.disk new.disk old.list new.list old.held new.held (alone p)
       status leaves)
       (alike : ServesAlike p part.history) (taken : Result code.Plan Declined)
-      (takes : (o : Origin) → (idle_device idle).origin ≡ Some o → TakesRead (idle_device idle) o telling old.library new.library bytes taken)
+      (takes : (o : Origin) → (idle_device idle).origin ≡ Some o → TakesRead (idle_device idle) o new.library.content count new.library.faults bytes taken)
       (follows : TakenEnding Start taken part.ending (records_of part.history))
       (failed : part.ending ≡ ByDiskFault → Rose old.faults new.faults) (disk_cause : HasDiskFailed taken → Rose old.faults new.faults)
-      (library_cause : HasLibraryFailed taken → Rose old.library new.library) (library_later : old.library ≤ new.library)
+      (library_cause : HasLibraryFailed taken → Rose count new.library.faults) (library_later : count ≤ new.library.faults)
       (whole : AllHoldDevice (disk.may_leave old.disk) p.device → HasLeft disk.moment disk.left_since old.disk new.disk
       (StandsWhole journal.entries p.device (records_of part.history)))
       (accepts : AcceptsTaken journal.entries disk.may_leave disk.moment disk.left_since old.disk new.disk (idle_device idle) Start taken part.ending
@@ -337,6 +350,7 @@ module _ {D J : Type 0} (disk : a_disk.Ghosts D) (journal : a_journal.Ghosts J)
       lines = lines_of (idle_device idle) part.prints.printed_records ++ served_line E;
       status = status_of_ending E;
       before = old.library;
+      content = content;
       after = new.library;
       disk_before = old.faults;
       disk_after = new.faults;
@@ -366,15 +380,15 @@ module _ {D J : Type 0} (disk : a_disk.Ghosts D) (journal : a_journal.Ghosts J)
     own_accepts = settled_accepts (alone p) H journal.entries disk.may_leave disk.moment disk.left_since old.disk new.disk (idle_device idle) Start taken
         part.ending part.ends accepts
 
-    clause : IsDeployedThere content X
+    clause : IsDeployedThere X
     clause = record {
       regular = held.0.regular;
-      taken = taken;
-      told = telling;
+      refreshed = refreshed;
       extends = extends;
-      takes = takes;
-      library_cause = library_cause;
-      library_later = library_later;
+      taken = taken;
+      takes = λ o is. subst (λ (n : ℕ). TakesRead (idle_device idle) o new.library.content n new.library.faults bytes taken) uncounted (takes o is);
+      library_cause = λ failed. subst (λ (n : ℕ). Rose n new.library.faults) uncounted (library_cause failed);
+      library_later = subst (λ (n : ℕ). n ≤ new.library.faults) uncounted library_later;
       ending = E;
       follows = own_follows;
       ends = subst (λ (x : Device). RecordsEnd E (records_of H) x) (sym same) (settled_ends (alone p) H part.trace.run part.ending part.ends);
@@ -411,7 +425,7 @@ module _ {D J : Type 0} (disk : a_disk.Ghosts D) (journal : a_journal.Ghosts J)
           ]),
     )
 
-    is_of : (last : Option (List ℕ)) → IsOf disk journal (IsDeployedThere content) old (record new { held = last }) p H X
+    is_of : (last : Option (List ℕ)) → IsOf disk journal IsDeployedThere old (record new { held = last }) p H X
     is_of last = record {
       records = refl;
       device = sym asked.device_is;
@@ -437,7 +451,7 @@ module _ {D J : Type 0} (disk : a_disk.Ghosts D) (journal : a_journal.Ghosts J)
 
       -- the call goes on, with this line
       handled_at : (last : Option (List ℕ)) → Appends new.held last (no_memory_line status standing) →
-          IsHandled disk journal (IsDeployedThere content) old (record new { held = last }) p H X
+          IsHandled disk journal IsDeployedThere old (record new { held = last }) p H X
       handled_at last said =
           let t = stay in
           record {
@@ -455,9 +469,9 @@ module _ {D J : Type 0} (disk : a_disk.Ghosts D) (journal : a_journal.Ghosts J)
       -- that line could not be written
       unsaid_at : (c : Option (List RunnerEntry)) (last : Option (List ℕ)) (g : List TraceEvent) → AppendsPrefix new.held last (no_memory_line status standing) →
           ActTrace (state_after p H) g new.list c → IsEnd (state_after (state_after p H) g) statuses.Edge false →
-          IsEnded disk journal (IsDeployedThere content) old (record new { list = c; held = last }) p (g ++ H) X statuses.Edge false
+          IsEnded disk journal IsDeployedThere old (record new { list = c; held = last }) p (g ++ H) X statuses.Edge false
       unsaid_at c last g said acts end =
-          line_fails disk journal laws (IsDeployedThere content) old new p H X c last g goes stands (holds_at stands) (is_of new.held) acts
+          line_fails disk journal laws IsDeployedThere old new p H X c last g goes stands (holds_at stands) (is_of new.held) acts
           (subst (λ (l : List ℕ). AppendsPrefix old.held last l) lines_is
           (prefix_behind old.held new.held last Said (want_line X.status) (part.prints.whole (back_edge s status standing on other))
           (subst (λ (l : List ℕ). AppendsPrefix new.held last l) (sym stay.1) said))) end
@@ -465,7 +479,7 @@ module _ {D J : Type 0} (disk : a_disk.Ghosts D) (journal : a_journal.Ghosts J)
     -- it ends
     ended_at : EndsCall status → status ≢ statuses.Memory → (status ≡ statuses.Disk → Rose old.faults new.faults) →
         (status ≢ statuses.Disk → status ≢ statuses.Edge → new.faults ≡ old.faults) → IsEnd (state_after (alone p) H) status (is_failing part.ending) →
-        IsEnded disk journal (IsDeployedThere content) old new p H X status (is_failing part.ending)
+        IsEnded disk journal IsDeployedThere old new p H X status (is_failing part.ending)
     ended_at ends memory rose quiet end = record {
       goes = goes;
       sure = record {
@@ -499,10 +513,10 @@ module _ {D J : Type 0} (disk : a_disk.Ghosts D) (journal : a_journal.Ghosts J)
       (part : Part journal.entries journal.files disk.may_leave disk.moment disk.left_since old.disk new.disk old.list new.list old.held new.held (alone p)
       (status_of_ran r) (λ ending q. RanLeft p.generation r (is_failing ending) q later now lives))
       (alike : ServesAlike p part.history) (taken : Result code.Plan Declined)
-      (takes : (o : Origin) → (idle_device idle).origin ≡ Some o → TakesRead (idle_device idle) o telling old.library new.library bytes taken)
+      (takes : (o : Origin) → (idle_device idle).origin ≡ Some o → TakesRead (idle_device idle) o new.library.content count new.library.faults bytes taken)
       (follows : TakenEnding Start taken part.ending (records_of part.history)) (came : CameBy r (records_of part.history))
       (failed : part.ending ≡ ByDiskFault → Rose old.faults new.faults) (disk_cause : HasDiskFailed taken → Rose old.faults new.faults)
-      (library_cause : HasLibraryFailed taken → Rose old.library new.library) (library_later : old.library ≤ new.library)
+      (library_cause : HasLibraryFailed taken → Rose count new.library.faults) (library_later : count ≤ new.library.faults)
       (whole : AllHoldDevice (disk.may_leave old.disk) p.device → HasLeft disk.moment disk.left_since old.disk new.disk
       (StandsWhole journal.entries p.device (records_of part.history)))
       (accepts : AcceptsTaken journal.entries disk.may_leave disk.moment disk.left_since old.disk new.disk (idle_device idle) Start taken part.ending
@@ -539,7 +553,7 @@ module _ {D J : Type 0} (disk : a_disk.Ghosts D) (journal : a_journal.Ghosts J)
           (subst (λ (o : Option Answer). IfSome o (λ x. is_document x ≡ true)) (sym asked.answer_is) refl)))
 
       pub back_left : (last : Option (List ℕ)) → Appends new.held last (no_memory_line st standing) →
-          DocumentLeft disk journal (IsDeployedThere content) bytes (ran.Back s st standing) old (record new { held = last }) p part.history later now lives
+          DocumentLeft disk journal IsDeployedThere bytes (ran.Back s st standing) old (record new { held = last }) p part.history later now lives
       back_left last said = (
         Document,
         refl,
@@ -552,7 +566,7 @@ module _ {D J : Type 0} (disk : a_disk.Ghosts D) (journal : a_journal.Ghosts J)
       pub unsaid_left : (c : Option (List RunnerEntry)) (last : Option (List ℕ)) (g : List TraceEvent) (told_last : Told) (lives_last : List ℕ) →
           AppendsPrefix new.held last (no_memory_line st standing) → ActTrace (state_after p part.history) g new.list c →
           IsEnd (state_after (state_after p part.history) g) statuses.Edge false →
-          DocumentLeft {J = J} disk journal (IsDeployedThere content) bytes (ran.Over statuses.Edge) old (record new { list = c; held = last }) p
+          DocumentLeft {J = J} disk journal IsDeployedThere bytes (ran.Over statuses.Edge) old (record new { list = c; held = last }) p
           (g ++ part.history) later told_last lives_last
       unsaid_left c last g told_last lives_last said acts end = (
         Document,
@@ -564,7 +578,7 @@ module _ {D J : Type 0} (disk : a_disk.Ghosts D) (journal : a_journal.Ghosts J)
       )
 
     pub over_left : (st : Status) → r ≡ ran.Over st → EndsRan r → NoMemoryGoesOn r →
-        DocumentLeft {J = J} disk journal (IsDeployedThere content) bytes (ran.Over st) old new p part.history later now lives
+        DocumentLeft {J = J} disk journal IsDeployedThere bytes (ran.Over st) old new p part.history later now lives
     over_left st is ends memory =
         let status_is : status_of_ran r ≡ st = ap status_of_ran is in
         let own_ends : EndsCall st = subst EndsRan is ends in
@@ -574,7 +588,7 @@ module _ {D J : Type 0} (disk : a_disk.Ghosts D) (journal : a_journal.Ghosts J)
           Document,
           is_failing part.ending,
           refl,
-          subst (λ (z : Status). IsEnded disk journal (IsDeployedThere content) old new p part.history Document z (is_failing part.ending)) status_is
+          subst (λ (z : Status). IsEnded disk journal IsDeployedThere old new p part.history Document z (is_failing part.ending)) status_is
               (ended_at (status_of_ran r) Leaves part alike taken takes follows failed disk_cause library_cause library_later whole accepts
               (subst EndsCall (sym status_is) own_ends) (λ memory. own_memory (sym status_is ∙ memory)) rose quiet
               (subst (λ (z : Status). IsEnd (state_after (alone p) part.history) z (is_failing part.ending)) (sym status_is) end)),

@@ -21,4 +21,3 @@ pub mod Hearing
 pub mod Ending
 pub mod Closing
 pub mod Opens
-pub mod Telling

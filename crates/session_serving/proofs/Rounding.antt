@@ -8,6 +8,7 @@ use Rattle.edges.specs.Waiting.{Waiting, without_first}
 use Rattle.device.specs.Devices.{Device}
 use Rattle.records.specs.Stored.{Record}
 use Rattle.histories.specs.TraceEvents.{Answer, document, nothing}
+use Rattle.session_serving.specs.Libraries.{LibraryState}
 use Rattle.session_serving.specs.Rounds.{AreGiven, AreHandled, AreStarted, WaitingLeft, Handled, Round, Took, Waited, answered_by, lines_of_rounds}
 use Rattle.session_serving.specs.Rounds.{records_of_rounds}
 use Rattle.session_serving.specs.Rounds.{questions_of_rounds, waiting_behind}
@@ -53,11 +54,11 @@ pub gives_none : (old : Option Waiting) → WaitingLeft old old []
 gives_none None = refl
 gives_none (Some w) = (tt, refl)
 
-pub handled_both : (Clause : Handled → Type 0) (a b : List Round) (d c e : Device) (n k m f i g : ℕ) → AreHandled Clause d n f a c k i →
+pub handled_both : (Clause : Handled → Type 0) (a b : List Round) (d c e : Device) (n k m : LibraryState) (f i g : ℕ) → AreHandled Clause d n f a c k i →
     AreHandled Clause c k i b e m g → AreHandled Clause d n f (a ++ b) e m g
 handled_both Clause [] b d c e n k m f i g one two =
     subst (λ (x : Device). AreHandled Clause x n f b e m g) one.0
-    (subst (λ (j : ℕ). AreHandled Clause c j f b e m g) one.1 (subst (λ (j : ℕ). AreHandled Clause c k j b e m g) one.2 two))
+    (subst (λ (j : LibraryState). AreHandled Clause c j f b e m g) one.1 (subst (λ (j : ℕ). AreHandled Clause c k j b e m g) one.2 two))
 handled_both Clause (Waited ∷ a) b d c e n k m f i g one two = handled_both Clause a b d c e n k m f i g one two
 handled_both Clause (Took x ∷ a) b d c e n k m f i g one two =
     (one.0, one.1, one.2, one.3, one.4, one.5, handled_both Clause a b x.behind c e x.after k m x.disk_after i g one.6 two)

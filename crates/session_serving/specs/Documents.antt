@@ -10,7 +10,7 @@ use Rattle.disk_model.specs.declared.disk.Disk as a_disk
 use Rattle.gate_log.specs.declared.journal.Journal as a_journal
 use Rattle.edges.specs.Inboxes.{after_done}
 use Rattle.edges.specs.Waiting.{without_first}
-use Rattle.library_core.specs.Library.{Content, Extends}
+use Rattle.library_core.specs.Library.{Extends}
 use Rattle.records.specs.Stored.{Record}
 use Rattle.device.specs.Devices.{Device, IsRegularDevice}
 use Rattle.records.specs.declared.record.Origin.{Origin}
@@ -31,6 +31,7 @@ use Rattle.session.specs.Endings.{line_of_ending, status_of_ending}
 use Rattle.session.specs.Parts.{EndsCall}
 use Rattle.session.specs.declared.ran.Standing.{Standing}
 use Rattle.session.specs.declared.ran.Standing.TheVariants as standings
+use Rattle.session_serving.specs.Libraries.{IsRefreshedOnce}
 use Rattle.session_serving.specs.Parts.{AllStandFor, HistoryKept, HoldsOn, IsStarted, IsSure, Outside, LinesWritten}
 use Rattle.session_serving.specs.Rounds.{GoesOn, Handled, SaysStopped}
 
@@ -72,19 +73,19 @@ RecordsEnd (ByDecline x) records d = records ≡ []
 RecordsEnd (Full at) records d = records ≡ []
 RecordsEnd Idle records d = records ≡ []
 
--- The document is taken in on the device of its turn or not, by the checks in their order and by what the library tells then, which
--- is what it told before and perhaps its recipes; and what follows is one deployment, as in a call of its own. Its lines are those of
--- its records, where the disk failed perhaps without the last one's, and that of its ending, which gives its status; want of memory is
--- said too. The device's configurations are regular, as plans ask. It is refused for the library only where the
--- library's count rose, and for the disk, or given up since that failed, only where the disk's did.
-pub record IsDeployedThere (content : Content) (x : Handled) : Type 0 where
+-- The library is refreshed once since the inbox gave the document. The document is taken in on the device of its turn or not, by the checks
+-- in their order and by what the library tells behind it, which is what it told behind the refresh and perhaps its recipes; and what follows
+-- is one deployment, as in a call of its own. Its lines are those of its records, where the disk failed perhaps without the last one's, and
+-- that of its ending, which gives its status; want of memory is said too. The device's configurations are regular, as plans ask. It is
+-- refused for the library only where the library's count rose, and for the disk, or given up since that failed, only where the disk's did.
+pub record IsDeployedThere (x : Handled) : Type 0 where
   pub regular : IsRegularDevice x.device
+  pub refreshed : IsRefreshedOnce x.before x.content x.after.coming
+  pub extends : Extends x.content x.after.content
   pub taken : Result code.Plan Declined
-  pub told : Content
-  pub extends : Extends content told
-  pub takes : (o : Origin) → x.device.origin ≡ Some o → TakesRead x.device o told x.before x.after x.bytes taken
-  pub library_cause : HasLibraryFailed taken → Rose x.before x.after
-  pub library_later : x.before ≤ x.after
+  pub takes : (o : Origin) → x.device.origin ≡ Some o → TakesRead x.device o x.after.content x.before.faults x.after.faults x.bytes taken
+  pub library_cause : HasLibraryFailed taken → Rose x.before.faults x.after.faults
+  pub library_later : x.before.faults ≤ x.after.faults
   pub ending : Ending
   pub follows : TakenEnding x.start taken ending x.records
   pub ends : RecordsEnd ending x.records x.behind

@@ -1,3 +1,4 @@
+pub mod Libraries
 pub mod Rounds
 pub mod Parts
 pub mod Pauses

@@ -30,17 +30,18 @@ use Rattle.session_boots.specs.Ends.{StopsAt}
 use Rattle.session_boots.specs.Traces.{StandsForMost, StandsForPrefix}
 use Rattle.session.specs.Calls.{StandsWhole}
 use Rattle.session.specs.Documents.{HasAcceptedTo}
+use Rattle.session_serving.specs.Libraries.{LibraryState, library_state}
 use Rattle.session_serving.specs.Rounds.{AreHandled, AreStarted, WaitingLeft, Handled, LastRound, Round, answered_by, lines_of_rounds, records_of_last}
 use Rattle.session_serving.specs.Rounds.{records_of_rounds}
 use Rattle.session_serving.specs.Rounds.{SaysLast, questions_of, questions_of_rounds, round_of_last, unprinted_of_last}
 
--- what is seen of the objects of a call at some moment; `faults` is the disk's count of them, and `library` is the library's
+-- what is seen of the objects of a call at some moment; `faults` is the disk's count of them
 pub record Outside (D : Type 0) : Type 0 where
   pub disk : D
   pub faults : ℕ
   pub list : Option (List RunnerEntry)
   pub held : Option (List ℕ)
-  pub library : ℕ
+  pub library : LibraryState
   pub answered : Answered
   pub waiting : Option Waiting
 
@@ -52,7 +53,7 @@ module _ {D K R L I : Type 0} (disk : a_disk.Ghosts D) (sink : a_sink.Ghosts K) 
     faults = disk.faults d;
     list = runner.list r;
     held = sink.held k;
-    library = library.faults l;
+    library = library_state library l;
     answered = inbox.answered i;
     waiting = inbox.waiting i;
   }

@@ -8,6 +8,7 @@ use Rattle.edges.specs.declared.answered.Kind.TheVariants.{Document, Nothing}
 use Rattle.edges.specs.declared.inbox.Incoming.TheVariants.{Document as GivesDocument, Nothing as GivesNothing}
 use Rattle.edges.specs.Inboxes.{after_answer, after_done}
 use Rattle.edges.specs.Waiting.{Waiting, next_of, without_first}
+use Rattle.library_core.specs.Library.{Content}
 use Rattle.device.specs.Devices.{Device}
 use Rattle.device.specs.Lawful.{Run}
 use Rattle.records.specs.Stored.{Record}
@@ -16,12 +17,14 @@ use Rattle.histories.specs.Courses.{gives_up, is_restart}
 use Rattle.histories.specs.TraceEvents.{Answer, TraceEvent, Ran, Booted, WaitElapsed, KilledOnAbort, Recorded, Moved, ReadClock, Heard, InboxAsked}
 use Rattle.histories.specs.TraceEvents.{Changed, StopsAll}
 use Rattle.histories.specs.TraceEvents.{document, nothing}
+use Rattle.session_serving.specs.Libraries.{LibraryState}
 
 -- ---- one document
 
 -- A document that the inbox gave, and what came of it: the device of that moment, the records that were kept, those whose line is
--- written and then those whose line is not, the device behind them, the lines, the status that the last of them tells, the library's
--- and the disk's count of faults before and behind it, and from where an entry of so many bytes would be written in the journal then.
+-- written and then those whose line is not, the device behind them, the lines, the status that the last of them tells, what is seen of the
+-- library as the inbox gave it and behind it, what the library told of its content between, directly behind the refresh, the disk's count
+-- of faults before and behind it, and from where an entry of so many bytes would be written in the journal then.
 pub record Handled : Type 0 where
   pub bytes : List ℕ
   pub device : Device
@@ -31,8 +34,9 @@ pub record Handled : Type 0 where
   pub behind : Device
   pub lines : List ℕ
   pub status : Status
-  pub before : ℕ
-  pub after : ℕ
+  pub before : LibraryState
+  pub content : Content
+  pub after : LibraryState
   pub disk_before : ℕ
   pub disk_after : ℕ
   pub start : ℕ → ℕ
@@ -107,8 +111,9 @@ WaitingLeft (Some w) new rounds = AreGiven w rounds × (new ≡ Some (waiting_be
 -- ---- each document by what is promised of one, for the device of its turn
 
 module _ (Clause : Handled → Type 0) where
-  -- from this device and these counts of the library and of the disk on, one document after another, to this device and these counts
-  abbrev pub AreHandled : Device → ℕ → ℕ → List Round → Device → ℕ → ℕ → Type 0
+  -- From this device, this library and this count of the disk on, one document after another, to this device, library and count: between two
+  -- documents the library stays as it is.
+  abbrev pub AreHandled : Device → LibraryState → ℕ → List Round → Device → LibraryState → ℕ → Type 0
   AreHandled d n f [] e m g = (e ≡ d) × (m ≡ n) × (g ≡ f)
   AreHandled d n f (Waited ∷ rounds) e m g = AreHandled d n f rounds e m g
   AreHandled d n f (Took x ∷ rounds) e m g =

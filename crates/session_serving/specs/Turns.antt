@@ -59,7 +59,7 @@ pub record StopsBy (Clause : Handled → Type 0) {D : Type 0} (x : Handled) (sta
   pub answered : new.answered ≡ (if is_restart status then after_done (after_answer Document old.answered) else after_answer Document old.answered)
   pub given : new.waiting ≡ (if is_restart status then option_map without_first old.waiting else old.waiting)
 
--- no answer of the inbox came, nothing in it was done, and the library was not asked
+-- no answer of the inbox came, nothing in it was done, and the library was neither asked nor refreshed
 pub record AsksNone {D : Type 0} (old new : Outside D) : Type 0 where
   pub answered : new.answered ≡ old.answered
   pub waiting : new.waiting ≡ old.waiting

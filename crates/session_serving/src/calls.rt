@@ -12,7 +12,6 @@ ghost use Rattle.session_serving.specs.Documents.{IsDeployedThere};
 ghost use Rattle.session_serving.specs.Parts.{AreOfFiles, outside};
 ghost use Rattle.session_serving.specs.States.{AreUp, IsBegun, IsUnopened};
 ghost use Rattle.session_serving.specs.Served.{IsSetServed, IsWholeCall};
-ghost use Rattle.library_core.specs.Library.{StaysTold};
 
 use crate::ends::{give_up, say_ended, stop_all, stop_spent};
 use crate::opening::open_set;
@@ -51,12 +50,11 @@ where
     requires up { AreUp (idle_device idle) (S.world supervisor.old) }
     requires from_state { (p : SessionState) × AsTold R.Runner runner.old (IsServing p (idle_device idle) (S.world supervisor.old)) × (p.turns ≡ turns) }
     ensures served { (p : SessionState) → AsTold R.Runner runner.old (IsServing p (idle_device idle) (S.world supervisor.old)) → p.turns ≡ turns →
-        (h : List TraceEvent) × IsSetServed D.Disk J.Journal (IsDeployedThere (L.content library.old)) turns
+        (h : List TraceEvent) × IsSetServed D.Disk J.Journal IsDeployedThere turns
         (outside D.Disk K.Sink R.Runner L.Library I.Inbox disk.old sink.old runner.old library.old inbox.old)
         (outside D.Disk K.Sink R.Runner L.Library I.Inbox disk.new sink.new runner.new library.new inbox.new)
         p h result }
     ensures none { R.living runner.new ≡ [] }
-    ensures kept { StaysTold L.content L.coming library.old library.new }
     ensures caused { IsCaused D.is_modelled J.files result
         (observation D.Disk K.Sink L.Library I.Inbox disk.old sink.old library.old inbox.old)
         (observation D.Disk K.Sink L.Library I.Inbox disk.new sink.new library.new inbox.new) }
@@ -101,12 +99,11 @@ where
     requires up { AreUp (idle_device idle) (S.world supervisor.old) }
     requires from_state { (p : SessionState) × AsTold R.Runner runner.old (IsUnopened p (idle_device idle) (S.world supervisor.old)) × (p.turns ≡ turns) }
     ensures served { (p : SessionState) → AsTold R.Runner runner.old (IsUnopened p (idle_device idle) (S.world supervisor.old)) → p.turns ≡ turns →
-        (h : List TraceEvent) × IsSetServed D.Disk J.Journal (IsDeployedThere (L.content library.old)) turns
+        (h : List TraceEvent) × IsSetServed D.Disk J.Journal IsDeployedThere turns
         (outside D.Disk K.Sink R.Runner L.Library I.Inbox disk.old sink.old runner.old library.old inbox.old)
         (outside D.Disk K.Sink R.Runner L.Library I.Inbox disk.new sink.new runner.new library.new inbox.new)
         p h result }
     ensures none { R.living runner.new ≡ [] }
-    ensures kept { StaysTold L.content L.coming library.old library.new }
     ensures caused { IsCaused D.is_modelled J.files result
         (observation D.Disk K.Sink L.Library I.Inbox disk.old sink.old library.old inbox.old)
         (observation D.Disk K.Sink L.Library I.Inbox disk.new sink.new library.new inbox.new) }
@@ -128,6 +125,9 @@ where
 /// second at most. A document that is refused, or whose deployment fails, is a line, and the call goes on. So is a fault that a document
 /// meets before its record: the disk's while its files are taken in, `fault 5 disk`, and want of memory, `fault 15 memory`; it is done
 /// then, and no component is touched. Then all components are stopped. With a restart, a reboot, or another fault the call ends at once.
+///
+/// The library is refreshed once for each document that the inbox gave, before it is deployed, and at no other time: so each document is
+/// deployed by what the library holds in its turn.
 ///
 /// Answers 0 where the inbox is closed, 17 behind so many turns, 100 and 101, and 5, 6 and 15. It answers 15 where there is no memory for
 /// the pending deployment, for an answer of the inbox or to bring the set up, and at the end of the runner's clock, at 2^62 - 1
@@ -154,12 +154,11 @@ where
     requires empty { (S.world supervisor.old).parts ≡ [] }
     requires from_state { (p : SessionState) × AsTold R.Runner runner.old (IsBegun p turns (loaded_device state) (S.world supervisor.old)) }
     ensures served { (p : SessionState) → AsTold R.Runner runner.old (IsBegun p turns (loaded_device state) (S.world supervisor.old)) →
-        (h : List TraceEvent) × IsWholeCall D.Disk J.Journal (IsDeployedThere (L.content library.old)) turns
+        (h : List TraceEvent) × IsWholeCall D.Disk J.Journal IsDeployedThere turns
         (outside D.Disk K.Sink R.Runner L.Library I.Inbox disk.old sink.old runner.old library.old inbox.old)
         (outside D.Disk K.Sink R.Runner L.Library I.Inbox disk.new sink.new runner.new library.new inbox.new)
         p h result }
     ensures none { R.living runner.new ≡ [] }
-    ensures kept { StaysTold L.content L.coming library.old library.new }
     // It ends with 5 only where the disk's count rose, and with 6 only where the sink's or the inbox's did.
     ensures caused { IsCaused D.is_modelled J.files result
         (observation D.Disk K.Sink L.Library I.Inbox disk.old sink.old library.old inbox.old)

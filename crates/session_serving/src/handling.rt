@@ -14,7 +14,6 @@ ghost use Rattle.session_serving.specs.Documents.{IsDeployedThere};
 ghost use Rattle.session_serving.specs.Parts.{AreOfFiles, outside};
 ghost use Rattle.session_serving.specs.States.{AreUp, IsAsked};
 ghost use Rattle.session_serving.specs.Turns.{DocumentLeft, HandleLeft, HasEnded, OwnsTurned, StaysRan, UpRan, UpTurned, status_of_turned};
-ghost use Rattle.library_core.specs.Library.{StaysTold};
 
 use crate::ends::{give_up, say_if_no_memory, say_inbox};
 use crate::standing::stand_again;
@@ -31,8 +30,8 @@ use session::{Ran, run_document};
 use std::alloc::Global;
 use step_runner::Runner;
 
-/// Deploys the document that the inbox gave, or says why not, also that there was no memory for it. Where that line cannot be written
-/// all children are killed, and the call ends with 6.
+/// Lets what the library holds be another from now on, and deploys the document that the inbox gave by that, or says why not, also that
+/// there was no memory for it. Where that line cannot be written all children are killed, and the call ends with 6.
 fn deploy_given<D: Disk, J: Journal + Drop, L: Library, I: Inbox, K: Sink, R: Runner, S: Supervise>(
     alloc: Global,
     idle: Idle<J>,
@@ -53,14 +52,13 @@ where
     requires up { AreUp (idle_device idle) (S.world supervisor.old) }
     requires from_state { (p : SessionState) × AsTold R.Runner runner.old (IsAsked a_document p (idle_device idle) (S.world supervisor.old)) }
     ensures left { (p : SessionState) → AsTold R.Runner runner.old (IsAsked a_document p (idle_device idle) (S.world supervisor.old)) →
-        (h : List TraceEvent) × DocumentLeft D.Disk J.Journal (IsDeployedThere (L.content library.old)) document.now result
+        (h : List TraceEvent) × DocumentLeft D.Disk J.Journal IsDeployedThere document.now result
         (outside D.Disk K.Sink R.Runner L.Library I.Inbox disk.old sink.old runner.old library.old inbox.now)
         (outside D.Disk K.Sink R.Runner L.Library I.Inbox disk.new sink.new runner.new library.new inbox.now)
         p h (S.world supervisor.new) (Listed R.list R.told R.asked runner.new) (R.living runner.new) }
     ensures held { OwnsOver D.Disk J.Journal OwnsRan result disk.new }
     ensures up { UpRan result (S.world supervisor.new) }
     ensures none { IsOver result → R.living runner.new ≡ [] }
-    ensures kept { StaysTold L.content L.coming library.old library.new }
     ensures stays { StaysRan result }
     ensures caused { IsCaused D.is_modelled J.files (status_of_ran result)
         (observation D.Disk K.Sink L.Library I.Inbox disk.old sink.old library.old inbox.now)
@@ -69,6 +67,7 @@ where
     components_run_their_items();
     deployments_serve_alike();
     idle_calls_are_steady();
+    library.refresh();
     match run_document(
         alloc, idle, document, disk, library, sink, runner, supervisor,
     ) {
@@ -124,14 +123,13 @@ where
     requires up { AreUp (idle_device idle) (S.world supervisor.old) }
     requires from_state { (p : SessionState) × AsTold R.Runner runner.old (IsAsked a_document p (idle_device idle) (S.world supervisor.old)) }
     ensures left { (p : SessionState) → AsTold R.Runner runner.old (IsAsked a_document p (idle_device idle) (S.world supervisor.old)) →
-        (h : List TraceEvent) × HandleLeft D.Disk J.Journal (IsDeployedThere (L.content library.old)) document.now result
+        (h : List TraceEvent) × HandleLeft D.Disk J.Journal IsDeployedThere document.now result
         (outside D.Disk K.Sink R.Runner L.Library I.Inbox disk.old sink.old runner.old library.old inbox.old)
         (outside D.Disk K.Sink R.Runner L.Library I.Inbox disk.new sink.new runner.new library.new inbox.new)
         p h (S.world supervisor.new) (Listed R.list R.told R.asked runner.new) (R.living runner.new) }
     ensures held { OwnsOver D.Disk J.Journal OwnsTurned result disk.new }
     ensures up { UpTurned result (S.world supervisor.new) }
     ensures none { HasEnded result → R.living runner.new ≡ [] }
-    ensures kept { StaysTold L.content L.coming library.old library.new }
     ensures caused { IsCaused D.is_modelled J.files (status_of_turned result)
         (observation D.Disk K.Sink L.Library I.Inbox disk.old sink.old library.old inbox.old)
         (observation D.Disk K.Sink L.Library I.Inbox disk.new sink.new library.new inbox.new) }

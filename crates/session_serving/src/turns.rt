@@ -13,7 +13,6 @@ ghost use Rattle.session_serving.specs.Documents.{IsDeployedThere};
 ghost use Rattle.session_serving.specs.Parts.{AreOfFiles, outside};
 ghost use Rattle.session_serving.specs.States.{AreUp};
 ghost use Rattle.session_serving.specs.Turns.{HasEnded, OwnsTurned, TurnLeft, TurnsLeft, UpTurned, status_of_turned};
-ghost use Rattle.library_core.specs.Library.{StaysTold};
 
 use crate::ends::{give_up_asking, give_up_serving};
 use crate::handling::handle;
@@ -55,14 +54,13 @@ where
     requires up { AreUp (idle_device idle) (S.world supervisor.old) }
     requires from_state { (p : SessionState) × AsTold R.Runner runner.old (IsAsking p (idle_device idle) (S.world supervisor.old)) × (1 ≤ p.turns) }
     ensures left { (p : SessionState) → AsTold R.Runner runner.old (IsAsking p (idle_device idle) (S.world supervisor.old)) → 1 ≤ p.turns →
-        (h : List TraceEvent) × TurnLeft D.Disk J.Journal (IsDeployedThere (L.content library.old)) result
+        (h : List TraceEvent) × TurnLeft D.Disk J.Journal IsDeployedThere result
         (outside D.Disk K.Sink R.Runner L.Library I.Inbox disk.old sink.old runner.old library.old inbox.old)
         (outside D.Disk K.Sink R.Runner L.Library I.Inbox disk.new sink.new runner.new library.new inbox.new)
         p h (S.world supervisor.new) (Listed R.list R.told R.asked runner.new) (R.living runner.new) }
     ensures held { OwnsOver D.Disk J.Journal OwnsTurned result disk.new }
     ensures up { UpTurned result (S.world supervisor.new) }
     ensures none { HasEnded result → R.living runner.new ≡ [] }
-    ensures kept { StaysTold L.content L.coming library.old library.new }
     ensures caused { IsCaused D.is_modelled J.files (status_of_turned result)
         (observation D.Disk K.Sink L.Library I.Inbox disk.old sink.old library.old inbox.old)
         (observation D.Disk K.Sink L.Library I.Inbox disk.new sink.new library.new inbox.new) }
@@ -120,14 +118,13 @@ where
     requires up { AreUp (idle_device idle) (S.world supervisor.old) }
     requires from_state { (p : SessionState) × AsTold R.Runner runner.old (IsServing p (idle_device idle) (S.world supervisor.old)) × (1 ≤ p.turns) }
     ensures left { (p : SessionState) → AsTold R.Runner runner.old (IsServing p (idle_device idle) (S.world supervisor.old)) → 1 ≤ p.turns →
-        (h : List TraceEvent) × TurnLeft D.Disk J.Journal (IsDeployedThere (L.content library.old)) result
+        (h : List TraceEvent) × TurnLeft D.Disk J.Journal IsDeployedThere result
         (outside D.Disk K.Sink R.Runner L.Library I.Inbox disk.old sink.old runner.old library.old inbox.old)
         (outside D.Disk K.Sink R.Runner L.Library I.Inbox disk.new sink.new runner.new library.new inbox.new)
         p h (S.world supervisor.new) (Listed R.list R.told R.asked runner.new) (R.living runner.new) }
     ensures held { OwnsOver D.Disk J.Journal OwnsTurned result disk.new }
     ensures up { UpTurned result (S.world supervisor.new) }
     ensures none { HasEnded result → R.living runner.new ≡ [] }
-    ensures kept { StaysTold L.content L.coming library.old library.new }
     ensures caused { IsCaused D.is_modelled J.files (status_of_turned result)
         (observation D.Disk K.Sink L.Library I.Inbox disk.old sink.old library.old inbox.old)
         (observation D.Disk K.Sink L.Library I.Inbox disk.new sink.new library.new inbox.new) }
@@ -175,14 +172,13 @@ where
     requires up { AreUp (idle_device idle) (S.world supervisor.old) }
     requires from_state { (p : SessionState) × AsTold R.Runner runner.old (IsServing p (idle_device idle) (S.world supervisor.old)) × (1 ≤ p.turns) }
     ensures left { (p : SessionState) → AsTold R.Runner runner.old (IsServing p (idle_device idle) (S.world supervisor.old)) → 1 ≤ p.turns →
-        (h : List TraceEvent) × TurnLeft D.Disk J.Journal (IsDeployedThere (L.content library.old)) result
+        (h : List TraceEvent) × TurnLeft D.Disk J.Journal IsDeployedThere result
         (outside D.Disk K.Sink R.Runner L.Library I.Inbox disk.old sink.old runner.old library.old inbox.old)
         (outside D.Disk K.Sink R.Runner L.Library I.Inbox disk.new sink.new runner.new library.new inbox.new)
         p h (S.world supervisor.new) (Listed R.list R.told R.asked runner.new) (R.living runner.new) }
     ensures held { OwnsOver D.Disk J.Journal OwnsTurned result disk.new }
     ensures up { UpTurned result (S.world supervisor.new) }
     ensures none { HasEnded result → R.living runner.new ≡ [] }
-    ensures kept { StaysTold L.content L.coming library.old library.new }
     ensures caused { IsCaused D.is_modelled J.files (status_of_turned result)
         (observation D.Disk K.Sink L.Library I.Inbox disk.old sink.old library.old inbox.old)
         (observation D.Disk K.Sink L.Library I.Inbox disk.new sink.new library.new inbox.new) }
@@ -227,14 +223,13 @@ where
     requires up { AreUp (idle_device idle) (S.world supervisor.old) }
     requires from_state { (p : SessionState) × AsTold R.Runner runner.old (IsServing p (idle_device idle) (S.world supervisor.old)) × (p.turns ≡ turns) }
     ensures left { (p : SessionState) → AsTold R.Runner runner.old (IsServing p (idle_device idle) (S.world supervisor.old)) → p.turns ≡ turns →
-        (h : List TraceEvent) × TurnsLeft D.Disk J.Journal (IsDeployedThere (L.content library.old)) result turns
+        (h : List TraceEvent) × TurnsLeft D.Disk J.Journal IsDeployedThere result turns
         (outside D.Disk K.Sink R.Runner L.Library I.Inbox disk.old sink.old runner.old library.old inbox.old)
         (outside D.Disk K.Sink R.Runner L.Library I.Inbox disk.new sink.new runner.new library.new inbox.new)
         p h (S.world supervisor.new) (Listed R.list R.told R.asked runner.new) (R.living runner.new) }
     ensures held { OwnsOver D.Disk J.Journal OwnsTurned result disk.new }
     ensures up { UpTurned result (S.world supervisor.new) }
     ensures none { HasEnded result → R.living runner.new ≡ [] }
-    ensures kept { StaysTold L.content L.coming library.old library.new }
     ensures caused { IsCaused D.is_modelled J.files (status_of_turned result)
         (observation D.Disk K.Sink L.Library I.Inbox disk.old sink.old library.old inbox.old)
         (observation D.Disk K.Sink L.Library I.Inbox disk.new sink.new library.new inbox.new) }

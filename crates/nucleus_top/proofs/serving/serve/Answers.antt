@@ -46,7 +46,6 @@ returns-in-Ok-clause-ran g c =
     let told = Listed g.R.Runner.list g.R.Runner.told g.R.Runner.asked c.args.runner.now in
     let d = loaded_device c.in-Ok.state in
     let state = begun_as true c.args.turns d told in
-    let content = g.L.Library.content c.args.library.now in
     let mid = outside g.D.Disk g.K.Sink g.R.Runner g.L.Library g.I.Inbox c.open_swept.new.disk c.args.sink.now c.args.runner.now c.args.library.now
     c.args.inbox.now in
     let old = outside g.D.Disk g.K.Sink g.R.Runner g.L.Library g.I.Inbox c.args.disk.now c.args.sink.now c.args.runner.now c.args.library.now
@@ -55,15 +54,15 @@ returns-in-Ok-clause-ran g c =
     c.serve.new.inbox in
     let call = c.serve.ensures.served state (serving_begins c.args.turns d c.new-supervisor.result told (g.R.Runner.living c.args.runner.now)
     c.new-supervisor.ensures c.requires.none) in
-    let whole : IsWholeCall g.D.Disk slots_ghosts (IsDeployedThere content) c.args.turns mid new state call.0 c.serve.result = call.1 in
+    let whole : IsWholeCall g.D.Disk slots_ghosts IsDeployedThere c.args.turns mid new state call.0 c.serve.result = call.1 in
     let sound = loaded_sound g.met.D.Disk.laws c.in-Ok.state c.open_swept.new.disk c.in-Ok.ensures.held in
     let some = loaded_origin g.met.D.Disk.laws c.in-Ok.state c.open_swept.new.disk c.in-Ok.ensures.held in
-    let most = serving_most g.D.Disk content mid new c.args.turns d told call.0 c.serve.result whole sound some in
+    let most = serving_most g.D.Disk mid new c.args.turns d told call.0 c.serve.result whole sound some in
     let start = on_disk c.open_swept.new.disk old in
-    let served : IsWholeCall g.D.Disk slots_ghosts (IsDeployedThere content) c.args.turns start new state call.0 c.serve.result =
-    subst (λ (n : ℕ). IsWholeCall g.D.Disk slots_ghosts (IsDeployedThere content) c.args.turns (record mid { faults = n }) new state call.0
+    let served : IsWholeCall g.D.Disk slots_ghosts IsDeployedThere c.args.turns start new state call.0 c.serve.result =
+    subst (λ (n : ℕ). IsWholeCall g.D.Disk slots_ghosts IsDeployedThere c.args.turns (record mid { faults = n }) new state call.0
     c.serve.result) (c.in-Ok.ensures.quiet (λ is. cc)) whole in
-    let lasting = told_in_order g.D.Disk content c.args.turns start new state call.0 c.serve.result served.parts most in
+    let lasting = told_in_order g.D.Disk c.args.turns start new state call.0 c.serve.result served.parts most in
     let stands = loaded_stands g.met.D.Disk.laws c.in-Ok.state c.open_swept.new.disk c.in-Ok.ensures.held in
     inr (
       d,
@@ -86,8 +85,8 @@ returns-in-Ok-clause-ran g c =
               images = weaker g.met.D.Disk.laws c.open_swept.new.disk c.serve.new.disk _
                   (AllowedOrPrefix (g.D.Disk.may_leave c.open_swept.new.disk) d (records_of call.0)) (λ image prefix. inr prefix) whole.goes.images;
               whole = held_whole g.met.D.Disk.laws c.open_swept.new.disk c.serve.new.disk d (records_of call.0) stands whole.goes.whole;
-              met = serving_meets g.D.Disk content mid new c.args.turns d told call.0 c.serve.result whole sound some c.plans_are_met.ensures;
-              stays = serving_wholes g.D.Disk content mid new c.args.turns d told call.0 c.serve.result whole sound some c.tree_laws.ensures.regular
+              met = serving_meets g.D.Disk mid new c.args.turns d told call.0 c.serve.result whole sound some c.plans_are_met.ensures;
+              stays = serving_wholes g.D.Disk mid new c.args.turns d told call.0 c.serve.result whole sound some c.tree_laws.ensures.regular
                   c.plans_are_whole.ensures.taken;
             });
         from = c.open_swept.new.disk;
@@ -95,7 +94,7 @@ returns-in-Ok-clause-ran g c =
         swept = c.in-Ok.ensures.clean;
         most = most;
         call = served;
-        in_order = ends_in_order g.D.Disk content c.args.turns start new state call.0 c.serve.result served.parts;
+        in_order = ends_in_order g.D.Disk c.args.turns start new state call.0 c.serve.result served.parts;
         printed_records = lasting.0;
         printed_are = lasting.1;
         lasts = lasting.2;
@@ -104,9 +103,6 @@ returns-in-Ok-clause-ran g c =
 
 pub returns-in-Ok-clause-none : goal.returns-in-Ok-clause-none
 returns-in-Ok-clause-none g c = c.serve.ensures.none
-
-pub returns-in-Ok-clause-kept : goal.returns-in-Ok-clause-kept
-returns-in-Ok-clause-kept g c = c.serve.ensures.kept
 
 pub returns-in-Ok-clause-caused : goal.returns-in-Ok-clause-caused
 returns-in-Ok-clause-caused g c =

@@ -2,6 +2,7 @@ use Rattle.std.proofs.Common.{◌≡◌, ◌⊎◌, ⊎_elim, List, ℕ, map, st
 use Rattle.std.proofs.KnownBytes.{Appends-nil}
 use Rattle.nuc_base.specs.declared.status.Status.TheVariants as status
 use Rattle.command_words.specs.declared.order.Order.TheVariants as orders
+use Rattle.library_core.proofs.Telling.{stays_same}
 use Rattle.admission.specs.declared.ask.Ask.{Ask}
 use Rattle.nucleus_top.specs.Asked.{AreWordsFor}
 use Rattle.nucleus_top.specs.Drives.{AsksTo, IsDeployed, IsRefusedBefore, MayNotDeploy}
@@ -150,7 +151,7 @@ returns-in-Deploy-clause-driven g c = λ drives. record {
 }
 
 pub returns-in-Deploy-clause-library_kept : goal.returns-in-Deploy-clause-library_kept
-returns-in-Deploy-clause-library_kept g c = c.deploy.ensures.kept
+returns-in-Deploy-clause-library_kept g c = λ other. c.deploy.ensures.kept
 
 pub returns-in-Deploy-clause-library_later : goal.returns-in-Deploy-clause-library_later
 returns-in-Deploy-clause-library_later g c = c.deploy.ensures.library_later
@@ -326,7 +327,7 @@ returns-in-Serve-clause-serves g c = λ turns is.
     let new : Outside _ = outside g.D.Disk g.K.Sink g.R.Runner g.L.Library g.I.Inbox c.serve.new.disk c.serve.new.sink c.serve.new.runner
     c.serve.new.library c.serve.new.inbox in
     ⊎_elim (λ away. inl away)
-    (λ served. inr (subst (λ (n : ℕ). IsServed g.D.Disk (g.L.Library.content c.args.library.now) old new c.serve.result store n) same served))
+    (λ served. inr (subst (λ (n : ℕ). IsServed g.D.Disk old new c.serve.result store n) same served))
     c.serve.ensures.ran
 
 pub returns-in-Serve-clause-causes : goal.returns-in-Serve-clause-causes
@@ -336,7 +337,10 @@ pub returns-in-Serve-clause-none : goal.returns-in-Serve-clause-none
 returns-in-Serve-clause-none g c = c.serve.ensures.none
 
 pub returns-in-Serve-clause-library_kept : goal.returns-in-Serve-clause-library_kept
-returns-in-Serve-clause-library_kept g c = c.serve.ensures.kept
+returns-in-Serve-clause-library_kept g c = λ other.
+    let words : List (List ℕ) = map string_bytes c.args.words.now.items in
+    let asks : AreWordsFor words (asked.Serve c.in-Serve.turns) = c.in-Serve.ensures in
+    absurd (other (c.in-Serve.turns, asks))
 
 pub returns-in-Serve-clause-disk_later : goal.returns-in-Serve-clause-disk_later
 returns-in-Serve-clause-disk_later g c = c.serve.ensures.caused.later.0
@@ -363,9 +367,18 @@ returns-in-Serve-clause-refused g c = λ drives.
     c.serve.new.library c.serve.new.inbox in
     refused_parts store input printed c.serve.result
     (⊎_elim (λ away. inl (away.0.answer, withholds_refused store input away.0.answer away.0.why, away.0.is_printed))
-    (λ served. inr (served_is_on g.D.Disk (g.L.Library.content c.args.library.now) old new c.serve.result store c.in-Serve.turns served)) c.serve.ensures.ran)
+    (λ served. inr (served_is_on g.D.Disk old new c.serve.result store c.in-Serve.turns served)) c.serve.ensures.ran)
 
 -- ---- the other commands do not serve
+
+pub returns-in-NoMemory-clause-library_kept : goal.returns-in-NoMemory-clause-library_kept
+returns-in-NoMemory-clause-library_kept g c = λ other. stays_same g.L.Library.content g.L.Library.coming c.args.library.now
+
+pub returns-in-Resume-clause-library_kept : goal.returns-in-Resume-clause-library_kept
+returns-in-Resume-clause-library_kept g c = λ other. stays_same g.L.Library.content g.L.Library.coming c.args.library.now
+
+pub returns-in-Other-clause-library_kept : goal.returns-in-Other-clause-library_kept
+returns-in-Other-clause-library_kept g c = λ other. c.look.ensures.library_kept
 
 pub returns-in-NoMemory-clause-serves : goal.returns-in-NoMemory-clause-serves
 returns-in-NoMemory-clause-serves g c = λ turns asks. inl (

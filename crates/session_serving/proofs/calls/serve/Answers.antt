@@ -59,7 +59,7 @@ returns-in-Back-clause-served g c = λ p begun.
             s.1.goes;
         memory = λ is. subst AreClosed (sym (records-append s.0 t.0))
             (closed_both (records_of t.0) (records_of s.0) (finished_closed g.D.Disk g.J.Journal old mid p t.0 f)
-            (served_memory (g.L.Library.content c.args.library.now) g.D.Disk g.J.Journal c.args.turns mid new (state_after p t.0) s.0 c.serve_set.result s.1
+            (served_memory g.D.Disk g.J.Journal c.args.turns mid new (state_after p t.0) s.0 c.serve_set.result s.1
             is));
         parts = inr (t.0, s.0, mid, refl, refl, refl, refl, f, s.1);
       },

@@ -39,7 +39,6 @@ serve_turns-requires-clause-from_state g c =
 pub returns-in-Ok-clause-served : goal.returns-in-Ok-clause-served
 returns-in-Ok-clause-served g c = λ p un turns.
     let told = Listed g.R.Runner.list g.R.Runner.told g.R.Runner.asked c.args.runner.now in
-    let Clause = IsDeployedThere (g.L.Library.content c.args.library.now) in
     let old = outside g.D.Disk g.K.Sink g.R.Runner g.L.Library g.I.Inbox c.args.disk.now c.args.sink.now c.args.runner.now c.args.library.now c.args.inbox.now
     in
     let new = outside g.D.Disk g.K.Sink g.R.Runner g.L.Library g.I.Inbox c.serve_turns.new.disk c.serve_turns.new.sink c.serve_turns.new.runner
@@ -48,7 +47,7 @@ returns-in-Ok-clause-served g c = λ p un turns.
     let s = c.serve_turns.ensures.served (state_after p t.0) t.2 (t.3 ∙ turns) in
     let stands = idle_stands g.D.Disk g.J.Journal g.met.D.Disk.laws g.met.J.Journal.laws c.args.idle c.args.disk.now c.requires.held p.device
     un.returned.stands.device_is in
-    (s.0 ++ t.0, served_behind g.D.Disk g.J.Journal g.met.D.Disk.laws Clause c.args.turns old new p t.0 s.0 c.serve_turns.result stands t.1 t.3 s.1)
+    (s.0 ++ t.0, served_behind g.D.Disk g.J.Journal g.met.D.Disk.laws IsDeployedThere c.args.turns old new p t.0 s.0 c.serve_turns.result stands t.1 t.3 s.1)
 
 -- ---- there is no memory
 
@@ -65,7 +64,6 @@ pub returns-in-Err-clause-served : goal.returns-in-Err-clause-served
 returns-in-Err-clause-served g c = λ p un turns.
     let d = idle_device c.args.idle in
     let told = Listed g.R.Runner.list g.R.Runner.told g.R.Runner.asked c.args.runner.now in
-    let Clause = IsDeployedThere (g.L.Library.content c.args.library.now) in
     let a = g.R.Runner.list c.args.runner.now in
     let b = g.R.Runner.list c.give_up.new.runner in
     let held = g.K.Sink.held c.args.sink.now in
@@ -79,8 +77,8 @@ returns-in-Err-clause-served g c = λ p un turns.
     let k = c.give_up.ensures.trace p d
     (subst (λ (w : Components). IsReturned p d w told (g.R.Runner.living c.args.runner.now)) (sym c.in-Err.ensures.same) un.returned) in (
       k.0 ++ [],
-      ended g.D.Disk g.J.Journal g.met.D.Disk.laws Clause c.args.turns old old new p [] k.0 [] WantOfMemory statuses.Memory false []
-          (turns_none g.D.Disk g.J.Journal g.met.D.Disk.laws Clause old p stands) (omega arith)
+      ended g.D.Disk g.J.Journal g.met.D.Disk.laws IsDeployedThere c.args.turns old old new p [] k.0 [] WantOfMemory statuses.Memory false []
+          (turns_none g.D.Disk g.J.Journal g.met.D.Disk.laws IsDeployedThere old p stands) (omega arith)
           (goes_acts g.D.Disk g.J.Journal g.met.D.Disk.laws disk a b p k.0 stands k.1) (sure_acts g.D.Disk g.J.Journal g.met.D.Disk.laws disk a b p k.0 stands
           k.1)
           k.1.none (refl, record { answered = refl; waiting = refl; library = refl }) ([], [], refl, Appends-nil held)

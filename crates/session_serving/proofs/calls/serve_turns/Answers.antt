@@ -34,20 +34,18 @@ pub stop_spent-requires-clause-from_state : goal.stop_spent-requires-clause-from
 stop_spent-requires-clause-from_state g c =
     let q = c.requires.from_state in
     let p = q.0 in
-    let Clause = IsDeployedThere (g.L.Library.content c.args.library.now) in
     let old = outside g.D.Disk g.K.Sink g.R.Runner g.L.Library g.I.Inbox c.args.disk.now c.args.sink.now c.args.runner.now c.args.library.now c.args.inbox.now
     in
     let mid = outside g.D.Disk g.K.Sink g.R.Runner g.L.Library g.I.Inbox c.take_turns.new.disk c.take_turns.new.sink c.take_turns.new.runner
     c.take_turns.new.library c.take_turns.new.inbox in
     let told = Listed g.R.Runner.list g.R.Runner.told g.R.Runner.asked c.take_turns.new.runner in
     let t = c.take_turns.ensures.left p q.1 q.2 in
-    let l = subst (λ (x : Turned _). TurnsLeft g.D.Disk g.J.Journal Clause x c.args.turns old mid p t.0 (g.S.Supervise.world c.take_turns.new.supervisor) told
+    let l = subst (λ (x : Turned _). TurnsLeft g.D.Disk g.J.Journal IsDeployedThere x c.args.turns old mid p t.0 (g.S.Supervise.world c.take_turns.new.supervisor) told
     (g.R.Runner.living c.take_turns.new.runner)) c.in-On.is t.1 in
     (state_after p t.0, idle_device c.in-On.idle, l.3, none_left (state_after p t.0).turns (length l.0) c.args.turns p.turns l.1.turns l.2 q.2)
 
 pub returns-then-not-stop_spent-clause-served : goal.returns-then-not-stop_spent-clause-served
 returns-then-not-stop_spent-clause-served g c = λ p serving full.
-    let Clause = IsDeployedThere (g.L.Library.content c.args.library.now) in
     let old = outside g.D.Disk g.K.Sink g.R.Runner g.L.Library g.I.Inbox c.args.disk.now c.args.sink.now c.args.runner.now c.args.library.now c.args.inbox.now
     in
     let mid = outside g.D.Disk g.K.Sink g.R.Runner g.L.Library g.I.Inbox c.take_turns.new.disk c.take_turns.new.sink c.take_turns.new.runner
@@ -56,7 +54,7 @@ returns-then-not-stop_spent-clause-served g c = λ p serving full.
     c.take_turns.new.library c.take_turns.new.inbox in
     let told = Listed g.R.Runner.list g.R.Runner.told g.R.Runner.asked c.take_turns.new.runner in
     let t = c.take_turns.ensures.left p serving full in
-    let l = subst (λ (x : Turned _). TurnsLeft g.D.Disk g.J.Journal Clause x c.args.turns old mid p t.0 (g.S.Supervise.world c.take_turns.new.supervisor) told
+    let l = subst (λ (x : Turned _). TurnsLeft g.D.Disk g.J.Journal IsDeployedThere x c.args.turns old mid p t.0 (g.S.Supervise.world c.take_turns.new.supervisor) told
     (g.R.Runner.living c.take_turns.new.runner)) c.in-On.is t.1 in
     let q = state_after p t.0 in
     let k = c.stop_spent.ensures.killed c.if-not-stop_spent.true q (idle_device c.in-On.idle) l.3 in
@@ -66,7 +64,7 @@ returns-then-not-stop_spent-clause-served g c = λ p serving full.
     let held = g.K.Sink.held c.take_turns.new.sink in
     let count = l.2 in (
       k.0 ++ t.0,
-      ended g.D.Disk g.J.Journal g.met.D.Disk.laws Clause c.args.turns old mid new p t.0 k.0 l.0
+      ended g.D.Disk g.J.Journal g.met.D.Disk.laws IsDeployedThere c.args.turns old mid new p t.0 k.0 l.0
           WantOfMemory statuses.Memory false [] l.1 (omega (arith, count))
           (goes_acts g.D.Disk g.J.Journal g.met.D.Disk.laws now a b q k.0 l.1.stands k.1)
           (sure_acts g.D.Disk g.J.Journal g.met.D.Disk.laws now a b q k.0 l.1.stands k.1) k.1.none
@@ -78,7 +76,6 @@ returns-then-not-stop_spent-clause-served g c = λ p serving full.
 
 pub returns-else-not-stop_spent-clause-served : goal.returns-else-not-stop_spent-clause-served
 returns-else-not-stop_spent-clause-served g c = λ p serving full.
-    let Clause = IsDeployedThere (g.L.Library.content c.args.library.now) in
     let old = outside g.D.Disk g.K.Sink g.R.Runner g.L.Library g.I.Inbox c.args.disk.now c.args.sink.now c.args.runner.now c.args.library.now c.args.inbox.now
     in
     let mid = outside g.D.Disk g.K.Sink g.R.Runner g.L.Library g.I.Inbox c.take_turns.new.disk c.take_turns.new.sink c.take_turns.new.runner
@@ -87,7 +84,7 @@ returns-else-not-stop_spent-clause-served g c = λ p serving full.
     c.take_turns.new.library c.take_turns.new.inbox in
     let told = Listed g.R.Runner.list g.R.Runner.told g.R.Runner.asked c.take_turns.new.runner in
     let t = c.take_turns.ensures.left p serving full in
-    let l = subst (λ (x : Turned _). TurnsLeft g.D.Disk g.J.Journal Clause x c.args.turns old mid p t.0 (g.S.Supervise.world c.take_turns.new.supervisor) told
+    let l = subst (λ (x : Turned _). TurnsLeft g.D.Disk g.J.Journal IsDeployedThere x c.args.turns old mid p t.0 (g.S.Supervise.world c.take_turns.new.supervisor) told
     (g.R.Runner.living c.take_turns.new.runner)) c.in-On.is t.1 in
     let q = state_after p t.0 in
     let k = c.stop_spent.ensures.stopped c.if-not-stop_spent.false q (idle_device c.in-On.idle) l.3
@@ -100,7 +97,7 @@ returns-else-not-stop_spent-clause-served g c = λ p serving full.
     let none = ap (λ (x : Device). x.pending) l.3.stands.device_is
     ∙ (held_on g.D.Disk g.J.Journal c.take_turns.result c.in-On.idle c.take_turns.new.disk c.in-On.is c.take_turns.ensures.held).1 in (
       k.0 ++ t.0,
-      ended g.D.Disk g.J.Journal g.met.D.Disk.laws Clause c.args.turns old mid new p t.0 k.0 l.0 Spent status false (ended_line c.args.turns) l.1
+      ended g.D.Disk g.J.Journal g.met.D.Disk.laws IsDeployedThere c.args.turns old mid new p t.0 k.0 l.0 Spent status false (ended_line c.args.turns) l.1
           (omega (arith, count)) (goes_acts g.D.Disk g.J.Journal g.met.D.Disk.laws now a b q k.0 l.1.stands k.1)
           (sure_acts g.D.Disk g.J.Journal g.met.D.Disk.laws now a b q k.0 l.1.stands k.1) k.1.none
           (l.2, c.say_ended.ensures.answers, record { answered = refl; waiting = refl; library = refl }, none)
@@ -123,48 +120,45 @@ pub stop_all-requires-clause-from_state : goal.stop_all-requires-clause-from_sta
 stop_all-requires-clause-from_state g c =
     let q = c.requires.from_state in
     let p = q.0 in
-    let Clause = IsDeployedThere (g.L.Library.content c.args.library.now) in
     let old = outside g.D.Disk g.K.Sink g.R.Runner g.L.Library g.I.Inbox c.args.disk.now c.args.sink.now c.args.runner.now c.args.library.now c.args.inbox.now
     in
     let mid = outside g.D.Disk g.K.Sink g.R.Runner g.L.Library g.I.Inbox c.take_turns.new.disk c.take_turns.new.sink c.take_turns.new.runner
     c.take_turns.new.library c.take_turns.new.inbox in
     let told = Listed g.R.Runner.list g.R.Runner.told g.R.Runner.asked c.take_turns.new.runner in
     let t = c.take_turns.ensures.left p q.1 q.2 in
-    let l = subst (λ (x : Turned _). TurnsLeft g.D.Disk g.J.Journal Clause x c.args.turns old mid p t.0 (g.S.Supervise.world c.take_turns.new.supervisor) told
+    let l = subst (λ (x : Turned _). TurnsLeft g.D.Disk g.J.Journal IsDeployedThere x c.args.turns old mid p t.0 (g.S.Supervise.world c.take_turns.new.supervisor) told
     (g.R.Runner.living c.take_turns.new.runner)) c.in-Shut.is t.1 in
     (state_after p t.0, idle_device c.in-Shut.idle, l.8)
 
 pub returns-in-Shut-clause-served : goal.returns-in-Shut-clause-served
 returns-in-Shut-clause-served g c = λ p serving full.
-    let Clause = IsDeployedThere (g.L.Library.content c.args.library.now) in
     let old = outside g.D.Disk g.K.Sink g.R.Runner g.L.Library g.I.Inbox c.args.disk.now c.args.sink.now c.args.runner.now c.args.library.now c.args.inbox.now
     in
     let mid = outside g.D.Disk g.K.Sink g.R.Runner g.L.Library g.I.Inbox c.take_turns.new.disk c.take_turns.new.sink c.take_turns.new.runner
     c.take_turns.new.library c.take_turns.new.inbox in
     let told = Listed g.R.Runner.list g.R.Runner.told g.R.Runner.asked c.take_turns.new.runner in
     let t = c.take_turns.ensures.left p serving full in
-    let l = subst (λ (x : Turned _). TurnsLeft g.D.Disk g.J.Journal Clause x c.args.turns old mid p t.0 (g.S.Supervise.world c.take_turns.new.supervisor) told
+    let l = subst (λ (x : Turned _). TurnsLeft g.D.Disk g.J.Journal IsDeployedThere x c.args.turns old mid p t.0 (g.S.Supervise.world c.take_turns.new.supervisor) told
     (g.R.Runner.living c.take_turns.new.runner)) c.in-Shut.is t.1 in
     let k = c.stop_all.ensures.trace (state_after p t.0) (idle_device c.in-Shut.idle) l.8 in
     let none = ap (λ (x : Device). x.pending) l.8.stands.device_is
     ∙ (held_shut g.D.Disk g.J.Journal c.take_turns.result c.in-Shut.idle c.take_turns.new.disk c.in-Shut.is c.take_turns.ensures.held).1 in
-    served_shut g.D.Disk g.J.Journal g.met.D.Disk.laws Clause c.args.turns old l.2 mid p t.0 l.0 l.1 k.0 l.3 (g.R.Runner.list c.stop_all.new.runner) l.4 l.5 l.6
+    served_shut g.D.Disk g.J.Journal g.met.D.Disk.laws IsDeployedThere c.args.turns old l.2 mid p t.0 l.0 l.1 k.0 l.3 (g.R.Runner.list c.stop_all.new.runner) l.4 l.5 l.6
     l.7 k.1 none (k.2 statuses.Done refl)
 
 -- ---- the call ended before
 
 pub returns-in-Over-clause-served : goal.returns-in-Over-clause-served
 returns-in-Over-clause-served g c = λ p serving full.
-    let Clause = IsDeployedThere (g.L.Library.content c.args.library.now) in
     let old = outside g.D.Disk g.K.Sink g.R.Runner g.L.Library g.I.Inbox c.args.disk.now c.args.sink.now c.args.runner.now c.args.library.now c.args.inbox.now
     in
     let new = outside g.D.Disk g.K.Sink g.R.Runner g.L.Library g.I.Inbox c.take_turns.new.disk c.take_turns.new.sink c.take_turns.new.runner
     c.take_turns.new.library c.take_turns.new.inbox in
     let told = Listed g.R.Runner.list g.R.Runner.told g.R.Runner.asked c.take_turns.new.runner in
     let t = c.take_turns.ensures.left p serving full in
-    let l = subst (λ (x : Turned _). TurnsLeft g.D.Disk g.J.Journal Clause x c.args.turns old new p t.0 (g.S.Supervise.world c.take_turns.new.supervisor) told
+    let l = subst (λ (x : Turned _). TurnsLeft g.D.Disk g.J.Journal IsDeployedThere x c.args.turns old new p t.0 (g.S.Supervise.world c.take_turns.new.supervisor) told
     (g.R.Runner.living c.take_turns.new.runner)) c.in-Over.is t.1 in
-    served_over g.D.Disk g.J.Journal g.met.D.Disk.laws Clause c.args.turns old l.2 new p t.0 l.0 l.1 l.3 l.4 c.in-Over.status l.5 l.6 l.7 l.8 l.9
+    served_over g.D.Disk g.J.Journal g.met.D.Disk.laws IsDeployedThere c.args.turns old l.2 new p t.0 l.0 l.1 l.3 l.4 c.in-Over.status l.5 l.6 l.7 l.8 l.9
 
 pub returns-in-Over-clause-none : goal.returns-in-Over-clause-none
 returns-in-Over-clause-none g c = c.take_turns.ensures.none (subst (λ (x : Turned _). HasEnded x) (sym c.in-Over.is) tt)

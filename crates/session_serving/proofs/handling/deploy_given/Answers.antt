@@ -1,5 +1,5 @@
 use Rattle.std.specs.Prelude.{ℕ, false}
-use Rattle.std.proofs.Common.{◌∙◌, ◌++◌, inl, refl, sym, ap, subst, arith}
+use Rattle.std.proofs.Common.{◌≤◌, ◌∙◌, ◌++◌, inl, refl, sym, ap, subst, arith}
 use Rattle.nuc_base.specs.declared.status.Status.TheVariants as statuses
 use Rattle.device.specs.Devices.{Device}
 use Rattle.deploy_state.specs.States.{idle_device}
@@ -17,7 +17,7 @@ use Rattle.session_serving.specs.Parts.{outside}
 use Rattle.session_serving.specs.Turns.{StaysRan, UpRan}
 use Rattle.session_serving.proofs.Again.{ready_returned}
 use Rattle.session_serving.proofs.Causing.{rose_since, stays_same}
-use Rattle.session_serving.proofs.Deploying.{asked_deploys, asked_open, back_left, over_left, ran_course, ready_left, stays_ran, unsaid_left}
+use Rattle.session_serving.proofs.Deploying.{asked_deploys, asked_open, back_left, over_left, ran_course, ready_left, refreshed_stays, stays_ran, unsaid_left}
 use Rattle.session_serving.proofs.Doing.{edge_disk}
 use Rattle.session_serving.proofs.Held.{idle_stands, origin_of}
 use Rattle.session_serving.proofs.Up.{made_standing, orderly_world, up_ran}
@@ -59,10 +59,13 @@ returns-in-Ok-clause-left g c = λ p asked.
     let old = outside g.D.Disk g.K.Sink g.R.Runner g.L.Library g.I.Inbox c.args.disk.now c.args.sink.now c.args.runner.now c.args.library.now c.args.inbox.now
     in
     let mid = outside g.D.Disk g.K.Sink g.R.Runner g.L.Library g.I.Inbox c.run_document.new.disk c.run_document.new.sink c.run_document.new.runner
-    c.run_document.new.library c.args.inbox.now in (
+    c.run_document.new.library c.args.inbox.now in
+    let refreshed = refreshed_stays old.library (g.L.Library.content c.refresh.new.self) (g.L.Library.coming c.refresh.new.self)
+    (g.L.Library.coming c.run_document.new.library) c.refresh.ensures.told c.refresh.ensures.tells c.run_document.ensures.kept.coming in (
       part.history,
-      back_left g.D.Disk g.J.Journal g.met.D.Disk.laws g.met.J.Journal.laws c.requires.apart c.requires.own (g.L.Library.content c.args.library.now)
-          (g.L.Library.content c.run_document.new.library) c.run_document.ensures.kept.content c.args.idle c.args.document.now old mid c.requires.held p world told living asked r later now lives part alike t.0 t.1 t.2.1 t.2.2 t.4 t.5 t.6
+      back_left g.D.Disk g.J.Journal g.met.D.Disk.laws g.met.J.Journal.laws c.requires.apart c.requires.own (g.L.Library.content c.refresh.new.self)
+          (g.L.Library.faults c.refresh.new.self) c.args.idle c.args.document.now old mid refreshed c.run_document.ensures.kept.content c.refresh.ensures.quiet
+          c.requires.held p world told living asked r later now lives part alike t.0 t.1 t.2.1 t.2.2 t.4 t.5 t.6
           c.run_document.ensures.library_later t.3 t.7 c.run_document.ensures.disk c.run_document.ensures.quiet_disk
           c.in-Back.idle c.in-Back.status c.in-Back.standing c.in-Back.is
           (idle_stands g.D.Disk g.J.Journal g.met.D.Disk.laws g.met.J.Journal.laws c.in-Back.idle c.run_document.new.disk
@@ -135,7 +138,7 @@ returns-in-Ok-clause-caused g c =
         subst (λ (n : ℕ). HasNotFallen (g.K.Sink.faults c.args.sink.now) n) (sym still) c.run_document.ensures.later.1,
         stays_same (g.I.Inbox.faults c.args.inbox.now),
       );
-      library_later = c.run_document.ensures.library_later;
+      library_later = subst (λ (n : ℕ). n ≤ g.L.Library.faults c.run_document.new.library) c.refresh.ensures.quiet c.run_document.ensures.library_later;
       others = c.run_document.ensures.others;
     }
 
@@ -162,8 +165,11 @@ give_up-requires g c =
     in
     let mid = outside g.D.Disk g.K.Sink g.R.Runner g.L.Library g.I.Inbox c.run_document.new.disk c.run_document.new.sink c.run_document.new.runner
     c.run_document.new.library c.args.inbox.now in
-    let ready = ready_left g.D.Disk g.J.Journal g.met.D.Disk.laws g.met.J.Journal.laws c.requires.apart c.requires.own (g.L.Library.content c.args.library.now)
-    (g.L.Library.content c.run_document.new.library) c.run_document.ensures.kept.content c.args.idle c.args.document.now old mid c.requires.held p world told living asked r later now lives part alike t.0 t.1 t.2.1 t.2.2 t.4 t.5 t.6
+    let refreshed = refreshed_stays old.library (g.L.Library.content c.refresh.new.self) (g.L.Library.coming c.refresh.new.self)
+    (g.L.Library.coming c.run_document.new.library) c.refresh.ensures.told c.refresh.ensures.tells c.run_document.ensures.kept.coming in
+    let ready = ready_left g.D.Disk g.J.Journal g.met.D.Disk.laws g.met.J.Journal.laws c.requires.apart c.requires.own (g.L.Library.content c.refresh.new.self)
+    (g.L.Library.faults c.refresh.new.self) c.args.idle c.args.document.now old mid refreshed c.run_document.ensures.kept.content c.refresh.ensures.quiet
+    c.requires.held p world told living asked r later now lives part alike t.0 t.1 t.2.1 t.2.2 t.4 t.5 t.6
     c.run_document.ensures.library_later t.3 t.7 c.run_document.ensures.disk c.run_document.ensures.quiet_disk
     c.in-Back.idle c.in-Back.status c.in-Back.standing c.in-Back.is
     (idle_stands g.D.Disk g.J.Journal g.met.D.Disk.laws g.met.J.Journal.laws c.in-Back.idle c.run_document.new.disk
@@ -195,8 +201,11 @@ returns-in-Err-clause-left g c = λ p asked.
     in
     let mid = outside g.D.Disk g.K.Sink g.R.Runner g.L.Library g.I.Inbox c.run_document.new.disk c.run_document.new.sink c.run_document.new.runner
     c.run_document.new.library c.args.inbox.now in
-    let ready = ready_left g.D.Disk g.J.Journal g.met.D.Disk.laws g.met.J.Journal.laws c.requires.apart c.requires.own (g.L.Library.content c.args.library.now)
-    (g.L.Library.content c.run_document.new.library) c.run_document.ensures.kept.content c.args.idle c.args.document.now old mid c.requires.held p world told living asked r later now lives part alike t.0 t.1 t.2.1 t.2.2 t.4 t.5 t.6
+    let refreshed = refreshed_stays old.library (g.L.Library.content c.refresh.new.self) (g.L.Library.coming c.refresh.new.self)
+    (g.L.Library.coming c.run_document.new.library) c.refresh.ensures.told c.refresh.ensures.tells c.run_document.ensures.kept.coming in
+    let ready = ready_left g.D.Disk g.J.Journal g.met.D.Disk.laws g.met.J.Journal.laws c.requires.apart c.requires.own (g.L.Library.content c.refresh.new.self)
+    (g.L.Library.faults c.refresh.new.self) c.args.idle c.args.document.now old mid refreshed c.run_document.ensures.kept.content c.refresh.ensures.quiet
+    c.requires.held p world told living asked r later now lives part alike t.0 t.1 t.2.1 t.2.2 t.4 t.5 t.6
     c.run_document.ensures.library_later t.3 t.7 c.run_document.ensures.disk c.run_document.ensures.quiet_disk
     c.in-Back.idle c.in-Back.status c.in-Back.standing c.in-Back.is
     (idle_stands g.D.Disk g.J.Journal g.met.D.Disk.laws g.met.J.Journal.laws c.in-Back.idle c.run_document.new.disk
@@ -205,8 +214,9 @@ returns-in-Err-clause-left g c = λ p asked.
     let k = c.give_up.ensures.trace (state_after p part.history) (idle_device c.in-Back.idle)
     (ready_returned c.in-Back.standing (state_after p part.history) (idle_device c.in-Back.idle) later now lives ready) in (
       k.0 ++ part.history,
-      unsaid_left g.D.Disk g.J.Journal g.met.D.Disk.laws g.met.J.Journal.laws c.requires.apart c.requires.own (g.L.Library.content c.args.library.now)
-          (g.L.Library.content c.run_document.new.library) c.run_document.ensures.kept.content c.args.idle c.args.document.now old mid c.requires.held p world told living asked r later now lives part alike t.0 t.1 t.2.1 t.2.2 t.4 t.5 t.6
+      unsaid_left g.D.Disk g.J.Journal g.met.D.Disk.laws g.met.J.Journal.laws c.requires.apart c.requires.own (g.L.Library.content c.refresh.new.self)
+          (g.L.Library.faults c.refresh.new.self) c.args.idle c.args.document.now old mid refreshed c.run_document.ensures.kept.content c.refresh.ensures.quiet
+          c.requires.held p world told living asked r later now lives part alike t.0 t.1 t.2.1 t.2.2 t.4 t.5 t.6
           c.run_document.ensures.library_later t.3 t.7 c.run_document.ensures.disk c.run_document.ensures.quiet_disk
           c.in-Back.idle c.in-Back.status c.in-Back.standing c.in-Back.is
           (idle_stands g.D.Disk g.J.Journal g.met.D.Disk.laws g.met.J.Journal.laws c.in-Back.idle c.run_document.new.disk
@@ -231,7 +241,7 @@ returns-in-Err-clause-caused g c =
         omega (arith, before, later),
         stays_same (g.I.Inbox.faults c.args.inbox.now),
       );
-      library_later = c.run_document.ensures.library_later;
+      library_later = subst (λ (n : ℕ). n ≤ g.L.Library.faults c.run_document.new.library) c.refresh.ensures.quiet c.run_document.ensures.library_later;
       others = c.run_document.ensures.others;
     }
 
@@ -254,10 +264,13 @@ returns-in-Over-clause-left g c = λ p asked.
     let old = outside g.D.Disk g.K.Sink g.R.Runner g.L.Library g.I.Inbox c.args.disk.now c.args.sink.now c.args.runner.now c.args.library.now c.args.inbox.now
     in
     let mid = outside g.D.Disk g.K.Sink g.R.Runner g.L.Library g.I.Inbox c.run_document.new.disk c.run_document.new.sink c.run_document.new.runner
-    c.run_document.new.library c.args.inbox.now in (
+    c.run_document.new.library c.args.inbox.now in
+    let refreshed = refreshed_stays old.library (g.L.Library.content c.refresh.new.self) (g.L.Library.coming c.refresh.new.self)
+    (g.L.Library.coming c.run_document.new.library) c.refresh.ensures.told c.refresh.ensures.tells c.run_document.ensures.kept.coming in (
       part.history,
-      over_left g.D.Disk g.J.Journal g.met.D.Disk.laws g.met.J.Journal.laws c.requires.apart c.requires.own (g.L.Library.content c.args.library.now)
-          (g.L.Library.content c.run_document.new.library) c.run_document.ensures.kept.content c.args.idle c.args.document.now old mid c.requires.held p world told living asked r later now lives part alike t.0 t.1 t.2.1 t.2.2 t.4 t.5 t.6
+      over_left g.D.Disk g.J.Journal g.met.D.Disk.laws g.met.J.Journal.laws c.requires.apart c.requires.own (g.L.Library.content c.refresh.new.self)
+          (g.L.Library.faults c.refresh.new.self) c.args.idle c.args.document.now old mid refreshed c.run_document.ensures.kept.content c.refresh.ensures.quiet
+          c.requires.held p world told living asked r later now lives part alike t.0 t.1 t.2.1 t.2.2 t.4 t.5 t.6
           c.run_document.ensures.library_later t.3 t.7 c.run_document.ensures.disk c.run_document.ensures.quiet_disk
           c.in-Over.status c.in-Over.is c.run_document.ensures.ends_call c.run_document.ensures.no_memory,
     )
@@ -273,6 +286,6 @@ returns-in-Over-clause-caused g c =
       edge = λ is. inl (c.run_document.ensures.edge (same ∙ is));
       quiet_edges = λ edge. (c.run_document.ensures.quiet_sink (λ is. edge (sym same ∙ is)), refl);
       later = (c.run_document.ensures.later.0, c.run_document.ensures.later.1, stays_same (g.I.Inbox.faults c.args.inbox.now));
-      library_later = c.run_document.ensures.library_later;
+      library_later = subst (λ (n : ℕ). n ≤ g.L.Library.faults c.run_document.new.library) c.refresh.ensures.quiet c.run_document.ensures.library_later;
       others = c.run_document.ensures.others;
     }

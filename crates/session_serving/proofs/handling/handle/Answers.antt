@@ -37,26 +37,25 @@ stand_again-requires-clause-from_state g c =
     c.deploy_given.new.library c.args.inbox.now in
     let told = Listed g.R.Runner.list g.R.Runner.told g.R.Runner.asked c.deploy_given.new.runner in
     let t = c.deploy_given.ensures.left q.0 q.1 in
-    let l = subst (λ (x : Ran _). DocumentLeft g.D.Disk g.J.Journal (IsDeployedThere (g.L.Library.content c.args.library.now)) c.args.document.now x old mid q.0
+    let l = subst (λ (x : Ran _). DocumentLeft g.D.Disk g.J.Journal IsDeployedThere c.args.document.now x old mid q.0
     t.0 (g.S.Supervise.world c.deploy_given.new.supervisor) told (g.R.Runner.living c.deploy_given.new.runner)) c.in-Back.is t.1 in
     (state_after q.0 t.0, l.3)
 
 pub returns-in-Ok-clause-left : goal.returns-in-Ok-clause-left
 returns-in-Ok-clause-left g c = λ p asked.
-    let Clause = IsDeployedThere (g.L.Library.content c.args.library.now) in
     let old = outside g.D.Disk g.K.Sink g.R.Runner g.L.Library g.I.Inbox c.args.disk.now c.args.sink.now c.args.runner.now c.args.library.now c.args.inbox.now
     in
     let mid = outside g.D.Disk g.K.Sink g.R.Runner g.L.Library g.I.Inbox c.deploy_given.new.disk c.deploy_given.new.sink c.deploy_given.new.runner
     c.deploy_given.new.library c.args.inbox.now in
     let told = Listed g.R.Runner.list g.R.Runner.told g.R.Runner.asked c.deploy_given.new.runner in
     let t = c.deploy_given.ensures.left p asked in
-    let l = subst (λ (x : Ran _). DocumentLeft g.D.Disk g.J.Journal Clause c.args.document.now x old mid p
+    let l = subst (λ (x : Ran _). DocumentLeft g.D.Disk g.J.Journal IsDeployedThere c.args.document.now x old mid p
     t.0 (g.S.Supervise.world c.deploy_given.new.supervisor) told (g.R.Runner.living c.deploy_given.new.runner)) c.in-Back.is t.1 in
     let k = c.stand_again.ensures.trace (state_after p t.0) l.3 in
-    let done = done_now g.D.Disk g.J.Journal g.met.D.Disk.laws Clause old mid p t.0 l.0 (g.I.Inbox.answered c.done.new.self) (g.I.Inbox.waiting c.done.new.self)
+    let done = done_now g.D.Disk g.J.Journal g.met.D.Disk.laws IsDeployedThere old mid p t.0 l.0 (g.I.Inbox.answered c.done.new.self) (g.I.Inbox.waiting c.done.new.self)
     l.2 c.in-Ok.ensures.counted c.in-Ok.ensures.told in (
       k.0 ++ t.0,
-      again_left g.D.Disk g.J.Journal g.met.D.Disk.laws Clause old
+      again_left g.D.Disk g.J.Journal g.met.D.Disk.laws IsDeployedThere old
           (outside g.D.Disk g.K.Sink g.R.Runner g.L.Library g.I.Inbox c.deploy_given.new.disk c.deploy_given.new.sink c.deploy_given.new.runner
           c.deploy_given.new.library c.done.new.self) p t.0 k.0 l.0 c.args.document.now (g.R.Runner.list c.stand_again.new.runner) c.stand_again.result
           c.in-Back.idle (g.S.Supervise.world c.stand_again.new.supervisor)
@@ -77,7 +76,7 @@ give_up-requires g c =
     let world = g.S.Supervise.world c.deploy_given.new.supervisor in
     let living = g.R.Runner.living c.deploy_given.new.runner in
     let t = c.deploy_given.ensures.left q.0 q.1 in
-    let l = subst (λ (x : Ran _). DocumentLeft g.D.Disk g.J.Journal (IsDeployedThere (g.L.Library.content c.args.library.now)) c.args.document.now x old mid q.0
+    let l = subst (λ (x : Ran _). DocumentLeft g.D.Disk g.J.Journal IsDeployedThere c.args.document.now x old mid q.0
     t.0 world told living) c.in-Back.is t.1 in
     record {
       from_state = (
@@ -89,7 +88,6 @@ give_up-requires g c =
 
 pub returns-in-Err-clause-left : goal.returns-in-Err-clause-left
 returns-in-Err-clause-left g c = λ p asked.
-    let Clause = IsDeployedThere (g.L.Library.content c.args.library.now) in
     let old = outside g.D.Disk g.K.Sink g.R.Runner g.L.Library g.I.Inbox c.args.disk.now c.args.sink.now c.args.runner.now c.args.library.now c.args.inbox.now
     in
     let mid = outside g.D.Disk g.K.Sink g.R.Runner g.L.Library g.I.Inbox c.deploy_given.new.disk c.deploy_given.new.sink c.deploy_given.new.runner
@@ -98,7 +96,7 @@ returns-in-Err-clause-left g c = λ p asked.
     let world = g.S.Supervise.world c.deploy_given.new.supervisor in
     let living = g.R.Runner.living c.deploy_given.new.runner in
     let t = c.deploy_given.ensures.left p asked in
-    let l = subst (λ (x : Ran _). DocumentLeft g.D.Disk g.J.Journal Clause c.args.document.now x old mid p t.0 world told living) c.in-Back.is t.1 in
+    let l = subst (λ (x : Ran _). DocumentLeft g.D.Disk g.J.Journal IsDeployedThere c.args.document.now x old mid p t.0 world told living) c.in-Back.is t.1 in
     let k = c.give_up.ensures.trace (state_after p t.0) (idle_device c.in-Back.idle)
     (ready_returned c.in-Back.standing (state_after p t.0) (idle_device c.in-Back.idle) world told living l.3) in (
       k.0 ++ t.0,
@@ -106,7 +104,7 @@ returns-in-Err-clause-left g c = λ p asked.
         l.0,
         false,
         l.1,
-        done_fails g.D.Disk g.J.Journal g.met.D.Disk.laws Clause old mid p t.0 l.0 (g.R.Runner.list c.give_up.new.runner) (g.K.Sink.held c.say_inbox.new.sink)
+        done_fails g.D.Disk g.J.Journal g.met.D.Disk.laws IsDeployedThere old mid p t.0 l.0 (g.R.Runner.list c.give_up.new.runner) (g.K.Sink.held c.say_inbox.new.sink)
             (g.I.Inbox.answered c.done.new.self) (g.I.Inbox.waiting c.done.new.self) k.0 c.say_inbox.result inbox_line refl l.2 k.1 c.say_inbox.ensures.line
             c.say_inbox.ensures.status c.in-Err.ensures.uncounted c.in-Err.ensures.told (k.2 statuses.Edge false refl),
       ),
@@ -116,14 +114,13 @@ returns-in-Err-clause-left g c = λ p asked.
 
 pub returns-then-not-asks_restart-clause-left : goal.returns-then-not-asks_restart-clause-left
 returns-then-not-asks_restart-clause-left g c = λ p asked.
-    let Clause = IsDeployedThere (g.L.Library.content c.args.library.now) in
     let old = outside g.D.Disk g.K.Sink g.R.Runner g.L.Library g.I.Inbox c.args.disk.now c.args.sink.now c.args.runner.now c.args.library.now c.args.inbox.now
     in
     let mid = outside g.D.Disk g.K.Sink g.R.Runner g.L.Library g.I.Inbox c.deploy_given.new.disk c.deploy_given.new.sink c.deploy_given.new.runner
     c.deploy_given.new.library c.args.inbox.now in
     let told = Listed g.R.Runner.list g.R.Runner.told g.R.Runner.asked c.deploy_given.new.runner in
     let t = c.deploy_given.ensures.left p asked in
-    let l = subst (λ (x : Ran _). DocumentLeft g.D.Disk g.J.Journal Clause c.args.document.now x old mid p t.0
+    let l = subst (λ (x : Ran _). DocumentLeft g.D.Disk g.J.Journal IsDeployedThere c.args.document.now x old mid p t.0
     (g.S.Supervise.world c.deploy_given.new.supervisor) told (g.R.Runner.living c.deploy_given.new.runner)) c.in-Over.is t.1 in
     let own = sym c.asks_restart.ensures ∙ c.if-not-asks_restart.true in
     let answered = g.I.Inbox.answered c.args.inbox.now in
@@ -133,7 +130,7 @@ returns-then-not-asks_restart-clause-left g c = λ p asked.
         l.0,
         l.1,
         l.2,
-        done_over g.D.Disk g.J.Journal g.met.D.Disk.laws Clause old mid p t.0 l.0 answered (g.I.Inbox.waiting c.args.inbox.now) c.in-Over.status l.1 l.3
+        done_over g.D.Disk g.J.Journal g.met.D.Disk.laws IsDeployedThere old mid p t.0 l.0 answered (g.I.Inbox.waiting c.args.inbox.now) c.in-Over.status l.1 l.3
             (ap (λ (b : Bool). if b then after_done answered else answered) (sym own))
             (ap (λ (b : Bool). if b then option_map without_first waiting else waiting) (sym own)),
       ),
@@ -141,14 +138,13 @@ returns-then-not-asks_restart-clause-left g c = λ p asked.
 
 pub returns-in-Ok-done-clause-left : goal.returns-in-Ok-done-clause-left
 returns-in-Ok-done-clause-left g c = λ p asked.
-    let Clause = IsDeployedThere (g.L.Library.content c.args.library.now) in
     let old = outside g.D.Disk g.K.Sink g.R.Runner g.L.Library g.I.Inbox c.args.disk.now c.args.sink.now c.args.runner.now c.args.library.now c.args.inbox.now
     in
     let mid = outside g.D.Disk g.K.Sink g.R.Runner g.L.Library g.I.Inbox c.deploy_given.new.disk c.deploy_given.new.sink c.deploy_given.new.runner
     c.deploy_given.new.library c.args.inbox.now in
     let told = Listed g.R.Runner.list g.R.Runner.told g.R.Runner.asked c.deploy_given.new.runner in
     let t = c.deploy_given.ensures.left p asked in
-    let l = subst (λ (x : Ran _). DocumentLeft g.D.Disk g.J.Journal Clause c.args.document.now x old mid p t.0
+    let l = subst (λ (x : Ran _). DocumentLeft g.D.Disk g.J.Journal IsDeployedThere c.args.document.now x old mid p t.0
     (g.S.Supervise.world c.deploy_given.new.supervisor) told (g.R.Runner.living c.deploy_given.new.runner)) c.in-Over.is t.1 in
     let own = sym c.asks_restart.ensures ∙ c.if-not-asks_restart.false in
     let answered = g.I.Inbox.answered c.args.inbox.now in
@@ -158,7 +154,7 @@ returns-in-Ok-done-clause-left g c = λ p asked.
         l.0,
         l.1,
         l.2,
-        done_over g.D.Disk g.J.Journal g.met.D.Disk.laws Clause old mid p t.0 l.0 (g.I.Inbox.answered c.done-in-Over.new.self)
+        done_over g.D.Disk g.J.Journal g.met.D.Disk.laws IsDeployedThere old mid p t.0 l.0 (g.I.Inbox.answered c.done-in-Over.new.self)
             (g.I.Inbox.waiting c.done-in-Over.new.self) c.in-Over.status l.1 l.3
             (c.in-Ok-done.ensures.counted ∙ ap (λ (b : Bool). if b then after_done answered else answered) (sym own))
             (c.in-Ok-done.ensures.told ∙ ap (λ (b : Bool). if b then option_map without_first waiting else waiting) (sym own)),
@@ -167,14 +163,13 @@ returns-in-Ok-done-clause-left g c = λ p asked.
 
 pub returns-in-Err-done-clause-left : goal.returns-in-Err-done-clause-left
 returns-in-Err-done-clause-left g c = λ p asked.
-    let Clause = IsDeployedThere (g.L.Library.content c.args.library.now) in
     let old = outside g.D.Disk g.K.Sink g.R.Runner g.L.Library g.I.Inbox c.args.disk.now c.args.sink.now c.args.runner.now c.args.library.now c.args.inbox.now
     in
     let mid = outside g.D.Disk g.K.Sink g.R.Runner g.L.Library g.I.Inbox c.deploy_given.new.disk c.deploy_given.new.sink c.deploy_given.new.runner
     c.deploy_given.new.library c.args.inbox.now in
     let told = Listed g.R.Runner.list g.R.Runner.told g.R.Runner.asked c.deploy_given.new.runner in
     let t = c.deploy_given.ensures.left p asked in
-    let l = subst (λ (x : Ran _). DocumentLeft g.D.Disk g.J.Journal Clause c.args.document.now x old mid p t.0
+    let l = subst (λ (x : Ran _). DocumentLeft g.D.Disk g.J.Journal IsDeployedThere c.args.document.now x old mid p t.0
     (g.S.Supervise.world c.deploy_given.new.supervisor) told (g.R.Runner.living c.deploy_given.new.runner)) c.in-Over.is t.1 in
     let own = sym c.asks_restart.ensures ∙ c.if-not-asks_restart.false in (
       t.0,
@@ -182,7 +177,7 @@ returns-in-Err-done-clause-left g c = λ p asked.
         l.0,
         l.1,
         l.2,
-        restart_fails g.D.Disk g.J.Journal g.met.D.Disk.laws Clause old mid p t.0 l.0 (g.K.Sink.held c.say_inbox-in-Err-done.new.sink)
+        restart_fails g.D.Disk g.J.Journal g.met.D.Disk.laws IsDeployedThere old mid p t.0 l.0 (g.K.Sink.held c.say_inbox-in-Err-done.new.sink)
             (g.I.Inbox.answered c.done-in-Over.new.self) (g.I.Inbox.waiting c.done-in-Over.new.self) c.say_inbox-in-Err-done.result c.in-Over.status l.1
             inbox_line refl l.3 own
             c.say_inbox-in-Err-done.ensures.line c.say_inbox-in-Err-done.ensures.status c.in-Err-done.ensures.uncounted c.in-Err-done.ensures.told

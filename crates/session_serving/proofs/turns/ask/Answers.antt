@@ -67,7 +67,7 @@ returns-in-Nothing-clause-left g c = λ p asking left.
       t.0 ++ h,
       (
         Waited,
-        waited g.D.Disk g.J.Journal g.met.D.Disk.laws (IsDeployedThere (g.L.Library.content c.args.library.now)) old p stands b
+        waited g.D.Disk g.J.Journal g.met.D.Disk.laws IsDeployedThere old p stands b
             (g.I.Inbox.answered c.next.new.self) (g.I.Inbox.waiting c.next.new.self) (t.0 ++ h) acts (omega (arith, left, on, all))
             (questions-append t.0 h ∙ ap (λ (l : List Answer). nothing ∷ l) (not_asked q t.0 t.1.proper on))
             (c.in-Ok.ensures.counted ∙ ap (λ (i : Incoming). after_answer (kind_of i) (g.I.Inbox.answered c.args.inbox.now)) c.in-Nothing.is)
@@ -98,7 +98,7 @@ returns-in-Closed-clause-left g c = λ p asking left.
     asking.device_is in (
       InboxAsked closed ∷ [],
       (
-        shut g.D.Disk g.J.Journal g.met.D.Disk.laws (IsDeployedThere (g.L.Library.content c.args.library.now)) old p stands a
+        shut g.D.Disk g.J.Journal g.met.D.Disk.laws IsDeployedThere old p stands a
             (g.I.Inbox.answered c.next.new.self) (g.I.Inbox.waiting c.next.new.self) (InboxAsked closed ∷ [])
             (asked_here p d world told living closed a asking left)
             (c.in-Ok.ensures.counted ∙ ap (λ (i : Incoming). after_answer (kind_of i) (g.I.Inbox.answered c.args.inbox.now)) c.in-Closed.is)
@@ -144,7 +144,7 @@ returns-in-Document-clause-left g c = λ p asking left.
     subst (λ (l : List ℕ). IfSome waiting (λ w. GivesDocument l ≡ next_of w.documents w.closed)) (sym c.as_slice.ensures)
     (subst (λ (i : Incoming). IfSome waiting (λ w. i ≡ next_of w.documents w.closed)) c.in-Document.is c.in-Ok.ensures.told) in (
       t.0 ++ h,
-      handled g.D.Disk g.J.Journal g.met.D.Disk.laws (IsDeployedThere (g.L.Library.content c.args.library.now)) old p stands a
+      handled g.D.Disk g.J.Journal g.met.D.Disk.laws IsDeployedThere old p stands a
           (g.I.Inbox.answered c.next.new.self) (g.I.Inbox.waiting c.next.new.self) new c.as_slice.result.now h t.0 c.handle-turned.result
           (g.S.Supervise.world c.handle-turned.new.supervisor) (Listed g.R.Runner.list g.R.Runner.told g.R.Runner.asked c.handle-turned.new.runner)
           (g.R.Runner.living c.handle-turned.new.runner) (asked_here p d world told living document a asking left) (omega (arith, left)) refl
@@ -169,7 +169,7 @@ returns-in-Err-clause-left g c = λ p asking left.
     asking.device_is in
     let t = c.give_up_asking.ensures.trace p d asking in (
       t.0,
-      fault_over g.D.Disk g.J.Journal g.met.D.Disk.laws (IsDeployedThere (g.L.Library.content c.args.library.now)) old p stands c.in-Err.fault
+      fault_over g.D.Disk g.J.Journal g.met.D.Disk.laws IsDeployedThere old p stands c.in-Err.fault
           c.give_up_asking.result new t.0 refl refl t.1
           (record { answered = c.in-Err.ensures.uncounted; waiting = c.next.ensures.waiting; library = refl }) c.give_up_asking.ensures.status
           c.give_up_asking.ensures.line

@@ -56,7 +56,7 @@ returns-in-Some-clause-left g c = λ p serving left.
     in
     let new = outside g.D.Disk g.K.Sink g.R.Runner g.L.Library g.I.Inbox c.ask.new.disk c.ask.new.sink c.ask.new.runner c.ask.new.library c.ask.new.inbox in (
       t.0 ++ k.0,
-      turn_behind g.D.Disk g.J.Journal g.met.D.Disk.laws (IsDeployedThere (g.L.Library.content c.args.library.now)) old p stands
+      turn_behind g.D.Disk g.J.Journal g.met.D.Disk.laws IsDeployedThere old p stands
           (g.R.Runner.list c.settle_turn.new.runner) new k.0 t.0 c.ask.result (g.S.Supervise.world c.ask.new.supervisor)
           (Listed g.R.Runner.list g.R.Runner.told g.R.Runner.asked c.ask.new.runner) (g.R.Runner.living c.ask.new.runner) k.1 s.1.turns t.1,
     )
@@ -86,15 +86,14 @@ returns-in-None-clause-left g c = λ p serving left.
     let t = c.give_up_serving.ensures.trace q d s.0 in
     let stands = idle_stands g.D.Disk g.J.Journal g.met.D.Disk.laws g.met.J.Journal.laws c.args.idle c.args.disk.now c.requires.held p.device
     serving.stands.device_is in
-    let Clause = IsDeployedThere (g.L.Library.content c.args.library.now) in
     let old = outside g.D.Disk g.K.Sink g.R.Runner g.L.Library g.I.Inbox c.args.disk.now c.args.sink.now c.args.runner.now c.args.library.now c.args.inbox.now
     in
     let new = outside g.D.Disk g.K.Sink g.R.Runner g.L.Library g.I.Inbox c.args.disk.now c.args.sink.now c.give_up_serving.new.runner c.args.library.now
     c.args.inbox.now in
     let h = t.0 ++ k.0 in (
       h,
-      over_at g.D.Disk g.J.Journal g.met.D.Disk.laws Clause old p stands WantOfMemory statuses.Memory false new h
-          (given_up g.D.Disk g.J.Journal g.met.D.Disk.laws Clause old p stands WantOfMemory statuses.Memory [] new h refl refl never_memory
+      over_at g.D.Disk g.J.Journal g.met.D.Disk.laws IsDeployedThere old p stands WantOfMemory statuses.Memory false new h
+          (given_up g.D.Disk g.J.Journal g.met.D.Disk.laws IsDeployedThere old p stands WantOfMemory statuses.Memory [] new h refl refl never_memory
           (acts_on p k.0 t.0 (g.R.Runner.list c.args.runner.now) (g.R.Runner.list c.settle_turn.new.runner) (g.R.Runner.list c.give_up_serving.new.runner) k.1 t.1)
           refl refl refl (refl, record { answered = refl; waiting = refl; library = refl }) ([], [], refl, Appends-nil (g.K.Sink.held c.args.sink.now))
           (λ other. Appends-nil (g.K.Sink.held c.args.sink.now))

@@ -1,7 +1,6 @@
 use Rattle.std.proofs.Common.{◌≡◌, ◌≤◌, ◌<◌, ◌+◌, ◌++◌, ◌∷◌, [], List, ℕ, length, refl, sym, ap, subst, ◌∙◌, append_assoc, arith}
 use Rattle.std.proofs.lemmas.List.{length_push}
 use Rattle.nuc_base.specs.declared.status.Status.TheVariants as statuses
-use Rattle.library_core.proofs.Telling.{stays_same, stays_then}
 use Rattle.deploy_state.specs.States.{idle_device}
 use Rattle.step_runner.specs.Entries.{Listed}
 use Rattle.histories.specs.States.{SessionState, state_after}
@@ -17,7 +16,6 @@ use Rattle.session_serving.proofs.Causing.{caused_none, caused_on, done_quiet}
 use Rattle.session_serving.proofs.Held.{held_on, idle_stands, turned_up}
 use Rattle.session_serving.proofs.Joining.{turns_both, turns_none}
 use Rattle.session_serving.proofs.Rounding.{length_both}
-use Rattle.session_serving.proofs.Telling.{told_before}
 use Rattle.session_serving.proofs.turns.take_turns.Goals as goal
 
 pub turns-init : goal.turns-init
@@ -26,11 +24,10 @@ turns-init g c = record {
   up = c.requires.up;
   caused = caused_none g.D.Disk.is_modelled g.J.Journal.files statuses.Done
       (observation g.D.Disk g.K.Sink g.L.Library g.I.Inbox c.args.disk.now c.args.sink.now c.args.library.now c.args.inbox.now) done_quiet;
-  kept = stays_same g.L.Library.content g.L.Library.coming c.args.library.now;
   left = λ p serving full. (
     [],
     [],
-    turns_none g.D.Disk g.J.Journal g.met.D.Disk.laws (IsDeployedThere (g.L.Library.content c.args.library.now))
+    turns_none g.D.Disk g.J.Journal g.met.D.Disk.laws IsDeployedThere
         (outside g.D.Disk g.K.Sink g.R.Runner g.L.Library g.I.Inbox c.args.disk.now c.args.sink.now c.args.runner.now c.args.library.now c.args.inbox.now) p
         (idle_stands g.D.Disk g.J.Journal g.met.D.Disk.laws g.met.J.Journal.laws c.args.idle c.args.disk.now c.requires.held p.device
         serving.stands.device_is),
@@ -65,10 +62,7 @@ returns-in-Shut-clause-left g c = λ p serving full.
     let living = g.R.Runner.living c.turn.new.runner in
     let t = c.turn.ensures.left (state_after p w.0) w.4
     (left_over p.turns (state_after p w.0).turns (length w.1) c.args.turns c.turns._turn full w.2.turns w.3 c.turns-test.true) in
-    let l = subst (λ (r : _). TurnLeft g.D.Disk g.J.Journal (IsDeployedThere (g.L.Library.content c.args.library.now)) r mid new (state_after p w.0) t.0
-    world told living) c.in-Shut.is
-    (told_before g.D.Disk g.J.Journal (g.L.Library.content c.args.library.now) (g.L.Library.content c.turns.library) c.turns.invariant.kept.content
-    c.turn.result mid new (state_after p w.0) t.0 world told living t.1) in
+    let l = subst (λ (r : _). TurnLeft g.D.Disk g.J.Journal IsDeployedThere r mid new (state_after p w.0) t.0 world told living) c.in-Shut.is t.1 in
     let below = c.turns-test.true in
     let at = w.3 in (
       t.0 ++ w.0,
@@ -96,12 +90,9 @@ returns-in-Over-clause-left g c = λ p serving full.
     let world = g.S.Supervise.world c.turn.new.supervisor in
     let told = Listed g.R.Runner.list g.R.Runner.told g.R.Runner.asked c.turn.new.runner in
     let living = g.R.Runner.living c.turn.new.runner in
-    let Clause = IsDeployedThere (g.L.Library.content c.args.library.now) in
     let t = c.turn.ensures.left (state_after p w.0) w.4
     (left_over p.turns (state_after p w.0).turns (length w.1) c.args.turns c.turns._turn full w.2.turns w.3 c.turns-test.true) in
-    let l = subst (λ (r : _). TurnLeft g.D.Disk g.J.Journal Clause r mid new (state_after p w.0) t.0 world told living) c.in-Over.is
-    (told_before g.D.Disk g.J.Journal (g.L.Library.content c.args.library.now) (g.L.Library.content c.turns.library) c.turns.invariant.kept.content
-    c.turn.result mid new (state_after p w.0) t.0 world told living t.1) in
+    let l = subst (λ (r : _). TurnLeft g.D.Disk g.J.Journal IsDeployedThere r mid new (state_after p w.0) t.0 world told living) c.in-Over.is t.1 in
     let at = w.3 in
     let below = c.turns-test.true in
     let few = l.9 in
@@ -115,8 +106,8 @@ returns-in-Over-clause-left g c = λ p serving full.
         l.4,
         l.5,
         ap (λ (k : List TraceEvent). k ++ w.0) l.6 ∙ append_assoc l.1 l.0 w.0,
-        turns_both g.D.Disk g.J.Journal g.met.D.Disk.laws Clause old mid l.2 p w.0 l.0 w.1 l.3 w.2 l.7,
-        subst (λ (q : SessionState). CallEnded g.D.Disk g.J.Journal (EndsBy Clause) l.2 new q l.1 l.4 c.in-Over.status l.5) (sym (left-append p l.0 w.0)) l.8,
+        turns_both g.D.Disk g.J.Journal g.met.D.Disk.laws IsDeployedThere old mid l.2 p w.0 l.0 w.1 l.3 w.2 l.7,
+        subst (λ (q : SessionState). CallEnded g.D.Disk g.J.Journal (EndsBy IsDeployedThere) l.2 new q l.1 l.4 c.in-Over.status l.5) (sym (left-append p l.0 w.0)) l.8,
         omega (arith, below, at, few, both),
       ),
     )
@@ -133,7 +124,6 @@ turns-preserved g c = record {
       (observation g.D.Disk g.K.Sink g.L.Library g.I.Inbox c.turns.disk c.turns.sink c.turns.library c.turns.inbox)
       (observation g.D.Disk g.K.Sink g.L.Library g.I.Inbox c.turn.new.disk c.turn.new.sink c.turn.new.library c.turn.new.inbox)) c.in-On.is
       c.turn.ensures.caused);
-  kept = stays_then c.turns.invariant.kept c.turn.ensures.kept;
   left = λ p serving full.
       let w = c.turns.invariant.left p serving full in
       let old = outside g.D.Disk g.K.Sink g.R.Runner g.L.Library g.I.Inbox c.args.disk.now c.args.sink.now c.args.runner.now c.args.library.now
@@ -144,17 +134,14 @@ turns-preserved g c = record {
       let world = g.S.Supervise.world c.turn.new.supervisor in
       let told = Listed g.R.Runner.list g.R.Runner.told g.R.Runner.asked c.turn.new.runner in
       let living = g.R.Runner.living c.turn.new.runner in
-      let Clause = IsDeployedThere (g.L.Library.content c.args.library.now) in
       let t = c.turn.ensures.left (state_after p w.0) w.4
       (left_over p.turns (state_after p w.0).turns (length w.1) c.args.turns c.turns._turn full w.2.turns w.3 c.turns-test.true) in
-      let l = subst (λ (r : _). TurnLeft g.D.Disk g.J.Journal Clause r mid new (state_after p w.0) t.0 world told living) c.in-On.is
-      (told_before g.D.Disk g.J.Journal (g.L.Library.content c.args.library.now) (g.L.Library.content c.turns.library) c.turns.invariant.kept.content
-      c.turn.result mid new (state_after p w.0) t.0 world told living t.1) in
+      let l = subst (λ (r : _). TurnLeft g.D.Disk g.J.Journal IsDeployedThere r mid new (state_after p w.0) t.0 world told living) c.in-On.is t.1 in
       let at = w.3 in
       let more = length_push w.1 l.0 in (
         t.0 ++ w.0,
         w.1 ++ l.0 ∷ [],
-        turns_both g.D.Disk g.J.Journal g.met.D.Disk.laws Clause old mid new p w.0 t.0 w.1 (l.0 ∷ []) w.2 l.1,
+        turns_both g.D.Disk g.J.Journal g.met.D.Disk.laws IsDeployedThere old mid new p w.0 t.0 w.1 (l.0 ∷ []) w.2 l.1,
         omega (arith, at, more),
         subst (λ (q : SessionState). IsServing q (idle_device c.in-On.next) world told living) (sym (left-append p t.0 w.0)) l.2,
       );
@@ -173,9 +160,6 @@ returns-clause-held g c = c.turns.invariant.held
 
 pub returns-clause-up : goal.returns-clause-up
 returns-clause-up g c = c.turns.invariant.up
-
-pub returns-clause-kept : goal.returns-clause-kept
-returns-clause-kept g c = c.turns.invariant.kept
 
 -- ---- the counts of faults
 

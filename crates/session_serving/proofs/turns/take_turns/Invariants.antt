@@ -1,6 +1,5 @@
 use Rattle.std.proofs.Common.{◌≡◌, List, length}
 use Rattle.nuc_base.specs.declared.status.Status.TheVariants as statuses
-use Rattle.library_core.specs.Library.{StaysTold}
 use Rattle.deploy_state.specs.States.{OwnsIdle, idle_device}
 use Rattle.step_runner.specs.Entries.{Listed}
 use Rattle.histories.specs.States.{SessionState, state_after}
@@ -21,11 +20,10 @@ invariant-turns g l = record {
   caused : IsCaused g.D.Disk.is_modelled g.J.Journal.files statuses.Done
       (observation g.D.Disk g.K.Sink g.L.Library g.I.Inbox l.fn.disk l.fn.sink l.fn.library l.fn.inbox)
       (observation g.D.Disk g.K.Sink g.L.Library g.I.Inbox l.disk l.sink l.library l.inbox);
-  kept : StaysTold g.L.Library.content g.L.Library.coming l.fn.library l.library;
   left : (p : SessionState) → IsServing p (idle_device l.fn.idle) (g.S.Supervise.world l.fn.supervisor)
       (Listed g.R.Runner.list g.R.Runner.told g.R.Runner.asked l.fn.runner) (g.R.Runner.living l.fn.runner) → p.turns ≡ l.fn.turns →
       (h : List TraceEvent) × (rounds : List Round)
-      × TurnsPassed g.D.Disk g.J.Journal (IsDeployedThere (g.L.Library.content l.fn.library))
+      × TurnsPassed g.D.Disk g.J.Journal IsDeployedThere
       (outside g.D.Disk g.K.Sink g.R.Runner g.L.Library g.I.Inbox l.fn.disk l.fn.sink l.fn.runner l.fn.library l.fn.inbox)
       (outside g.D.Disk g.K.Sink g.R.Runner g.L.Library g.I.Inbox l.disk l.sink l.runner l.library l.inbox) p h rounds
       × (length rounds ≡ l._turn)

@@ -15,7 +15,7 @@ use Rattle.session_serving.proofs.turns.turn.Goals as goal
 pub take_turn-requires-clause-held : goal.take_turn-requires-clause-held
 take_turn-requires-clause-held g c =
     held_after g.D.Disk g.J.Journal g.met.D.Disk.laws g.met.J.Journal.laws c.requires.apart c.requires.own
-    (IsDeployedThere (g.L.Library.content c.args.library.now)) c.args.idle
+    IsDeployedThere c.args.idle
     (outside g.D.Disk g.K.Sink g.R.Runner g.L.Library g.I.Inbox c.args.disk.now c.args.sink.now c.args.runner.now c.args.library.now c.args.inbox.now)
     c.sweep_owed.new.disk (g.D.Disk.faults c.sweep_owed.new.disk) c.requires.held c.sweep_owed.ensures.spared c.sweep_owed.ensures.safe
 
@@ -28,7 +28,7 @@ returns-in-Ok-clause-left g c = λ p serving left.
     let t = c.take_turn.ensures.left p serving left in (
       t.0,
       turn_swept g.D.Disk g.J.Journal g.met.D.Disk.laws g.met.J.Journal.laws c.requires.apart c.requires.own
-          (IsDeployedThere (g.L.Library.content c.args.library.now)) c.args.idle old c.sweep_owed.new.disk (g.D.Disk.faults c.sweep_owed.new.disk)
+          IsDeployedThere c.args.idle old c.sweep_owed.new.disk (g.D.Disk.faults c.sweep_owed.new.disk)
           c.requires.held c.sweep_owed.ensures.spared c.sweep_owed.ensures.safe p serving.stands.device_is new t.0 c.take_turn.result
           (g.S.Supervise.world c.take_turn.new.supervisor) (Listed g.R.Runner.list g.R.Runner.told g.R.Runner.asked c.take_turn.new.runner)
           (g.R.Runner.living c.take_turn.new.runner) c.in-Ok.ensures.quiet t.1,
@@ -62,7 +62,7 @@ returns-in-Err-clause-left g c = λ p serving left.
     let k = c.give_up_sweeping.ensures.trace p (idle_device c.args.idle) serving in (
       k.0,
       sweep_fails g.D.Disk g.J.Journal g.met.D.Disk.laws g.met.J.Journal.laws c.requires.apart c.requires.own
-          (IsDeployedThere (g.L.Library.content c.args.library.now)) c.args.idle old c.sweep_owed.new.disk (g.D.Disk.faults c.sweep_owed.new.disk)
+          IsDeployedThere c.args.idle old c.sweep_owed.new.disk (g.D.Disk.faults c.sweep_owed.new.disk)
           c.requires.held c.sweep_owed.ensures.spared c.sweep_owed.ensures.safe p serving.stands.device_is c.give_up_sweeping.result
           (g.R.Runner.list c.give_up_sweeping.new.runner) (g.K.Sink.held c.give_up_sweeping.new.sink) k.0 k.1 c.in-Err.ensures.cause
           c.give_up_sweeping.ensures.answers c.give_up_sweeping.ensures.says k.2,
