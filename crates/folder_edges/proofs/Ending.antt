@@ -1,12 +1,12 @@
 -- The end of a document that was given.
 use Rattle.std.proofs.Common.{◌≡◌, ◌<◌, ◌+◌, ◌-◌, inl, inr, ℕ, List, [], ◌∷◌, ◌++◌, Bool, true, false, Option, Some, Result, Ok, Err, OnOk, suc, get_or, length, take, drop, refl, sym, ◌∙◌, ap, subst, arith, take-append-drop}
 use Rattle.std.proofs.Math.Seq.{drop-cons}
-use Rattle.std.proofs.lemmas.List.{drop_all, get_or_default}
+use Rattle.std.proofs.lemmas.List.{append-nil, drop_all, get_or_default}
 use Rattle.nuc_base.specs.Faults.{Rose, HasCause}
 use Rattle.folders.specs.declared.folder.FolderFault.{FolderFault}
-use Rattle.folders.specs.History.{Content, Event, IsUntouched, HasSync, IsSettled, Did, taken_after}
+use Rattle.folders.specs.History.{Content, Event, IsUntouched, HasSync, IsSettled, Did, taken_after, taken_names}
 use Rattle.folders.specs.Trays.{IsGone}
-use Rattle.folders.proofs.Moves.{did_then, did_weaker, did_none, settled_by}
+use Rattle.folders.proofs.Moves.{did_then, did_weaker, did_none, settled_by, names_both, no_names}
 use Rattle.folder_edges.specs.Giving.{EndsGiven}
 use Rattle.folder_edges.specs.Inboxes.{stuck_of, given_of}
 use Rattle.folder_edges.proofs.Passing.{after_both, after_untouched}
@@ -23,7 +23,10 @@ pub let_go_stuck : (b : Bool) (handed stuck : List (List ℕ)) → b ≡ false �
 let_go_stuck b handed stuck free is = ap (λ (t : Bool). stuck_of t handed) free ∙ is
 
 gone_both : (name : List ℕ) (taken : Content) (x y : List Event) → IsGone name taken x → IsUntouched y → IsGone name taken (x ++ y)
-gone_both name taken x y gone none n = after_both taken x y n ∙ after_untouched (taken_after taken x) y n none ∙ gone n
+gone_both name taken x y gone none = record {
+  now = λ n. after_both taken x y n ∙ after_untouched (taken_after taken x) y n none ∙ gone.now n;
+  none = names_both x y ∙ ap (λ (l : List (List ℕ)). taken_names x ++ l) (no_names y none) ∙ append-nil (taken_names x) ∙ gone.none;
+}
 
 pub ends_gone : {E : Type 0} (a b c : Option (List Event)) (given old new : List (List ℕ)) (name : List ℕ) (r : Result (Unit {0}) E) → given ≡ name ∷ []
     → new ≡ old → Did a b (IsGone name) → Did b c (λ taken found. IsUntouched found × OnOk r (HasSync found)) → Did a c (EndsGiven given old new)

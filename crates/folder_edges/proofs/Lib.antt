@@ -4,5 +4,6 @@ mod Passing
 mod Queueing
 mod Reading
 mod Sifting
+mod Stuck
 mod Trying
 mod Turns

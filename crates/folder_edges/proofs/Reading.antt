@@ -12,7 +12,8 @@ use Rattle.folders.specs.declared.folder.Opened.{Opened}
 use Rattle.folders.proofs.Histories.{saw_then, saw_weaker, through_front, passed_front, passed_back, gave_front, gave_back, untouched_both, through_weaker}
 use Rattle.folder_edges.specs.Recipes.{most_of_recipe, added, IsRead, Reads, HoldsRecipes, HoldsWhatStays, ListsNames}
 use Rattle.folder_edges.specs.Names.{AreDocumentsOf}
-use Rattle.folder_edges.proofs.Queueing.{is_there, first_or_later}
+use Rattle.folder_edges.proofs.Stuck.{first_or_later}
+use Rattle.folder_edges.proofs.Queueing.{is_there}
 
 read_front : (name : List ℕ) (x y : List Event) (bytes : List ℕ) → IsRead name x bytes → IsRead name (x ++ y) bytes
 read_front name x y bytes h = record { opened = h.opened; gave = gave_front name most_of_recipe x y h.opened h.gave; what = h.what }

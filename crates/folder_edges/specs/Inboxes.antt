@@ -11,6 +11,7 @@ use Rattle.folders.specs.History.{Content, Event, Did, IsSettled}
 use Rattle.folder_edges.specs.declared.listing.Entry.{Entry}
 use Rattle.folder_edges.specs.Entries.{names_of_first}
 use Rattle.folder_edges.specs.Giving.{StaysListed, Next, EndsGiven}
+use Rattle.folder_edges.specs.Stuck.{Leaving}
 use Rattle.folder_edges.specs.declared.inbox.FolderInbox.{FolderInbox}
 
 abbrev pub inbox_tray : {T : Type 0} → FolderInbox T → T
@@ -54,10 +55,9 @@ IsHanded i Closed = inbox_given i ≡ []
 
 -- What a question is answered, by what was taken before and what was seen and moved meanwhile.
 pub record AsksFolder {T : Type 0} (history : T → Option (List Event)) (old new : FolderInbox T) (result : Result Incoming InboxFault) : Type 0 where
-  pub tells : Did (history (inbox_tray old)) (history (inbox_tray new)) (λ taken found.
+  pub tells : Did (history (inbox_tray old)) (history (inbox_tray new)) (Leaving (inbox_stuck old) (inbox_stuck new) (λ taken found.
       StaysListed (inbox_stuck old) (inbox_left old) (inbox_left new) taken found
-      × IfOk result (λ incoming. Next (inbox_stuck old) (inbox_left old) (inbox_left new) incoming taken found))
-  pub stuck : inbox_stuck new ≡ inbox_stuck old
+      × IfOk result (λ incoming. Next (inbox_stuck old) (inbox_left old) (inbox_left new) incoming taken found)))
   pub handed : IfOk result (IsHanded new)
 
 -- The document that was given is taken away and no other, or it is stuck; what was moved is stable unless something was missed; its turn is

@@ -9,25 +9,31 @@ use Rattle.folder_edges.specs.declared.listing.Place.TheVariants.{Inbox, Taken}
 use Rattle.folder_edges.specs.Entries.{entry, names_of_first}
 use Rattle.folder_edges.specs.Names.{IsDocumentName}
 use Rattle.folder_edges.specs.Giving.{most_given, Next, Gives}
+use Rattle.folder_edges.specs.Stuck.{IsFree, stuck_after}
 
--- A question, and after it the document is done: what was stuck before, what was seen and moved while it was asked, which documents were left
--- then, what was answered, and what is taken once the document is done.
+-- A question, and after it the document is done: what was seen and moved while it was asked, which documents were left then, what was answered,
+-- and what is stuck and what is taken once the document is done.
 pub record Round : Type 0 where
-  pub stuck : List (List ℕ)
   pub seen : List Event
   pub left : List Entry
   pub incoming : Incoming
+  pub stuck : List (List ℕ)
   pub after : Content
 
 -- the end of a document moves no other
 abbrev pub MovesNoOther : List (List ℕ) → Content → Content → Type 0
 MovesNoOther given before after = (n : List ℕ) → (Contains given n → ⊥) → after n ≡ before n
 
--- rounds one after another, from what is taken before the first and the documents that are left
-abbrev pub AreRounds : Content → List Entry → List Round → Type 0
-AreRounds taken left [] = ⊤
-AreRounds taken left (round ∷ rounds) = Next round.stuck left round.left round.incoming taken round.seen
-    × MovesNoOther (names_of_first round.left) (taken_after taken round.seen) round.after × AreRounds round.after (drop 1 round.left) rounds
+-- and what is stuck stays so
+abbrev pub StayStuck : List (List ℕ) → List (List ℕ) → Type 0
+StayStuck before after = (n : List ℕ) → Contains before n → Contains after n
+
+-- rounds one after another, from what is stuck and what is taken before the first, and the documents that are left
+abbrev pub AreRounds : List (List ℕ) → Content → List Entry → List Round → Type 0
+AreRounds stuck taken left [] = ⊤
+AreRounds stuck taken left (round ∷ rounds) = Next stuck left round.left round.incoming taken round.seen
+    × MovesNoOther (names_of_first round.left) (taken_after taken round.seen) round.after × StayStuck (stuck_after stuck round.seen) round.stuck
+    × AreRounds round.stuck round.after (drop 1 round.left) rounds
 
 -- this very file was taken, and is given whole or as much as is given of it
 pub record GaveFile (name : List ℕ) (f : File) (taken : Content) (round : Round) : Type 0 where
@@ -39,15 +45,16 @@ abbrev pub Comes : List ℕ → File → Content → List Round → Type 0
 Comes name f taken [] = ⊥
 Comes name f taken (round ∷ rounds) = Through (Stands name f) round.seen → GaveFile name f taken round ⊎ Comes name f round.after rounds
 
--- a document that was listed, stays and can be read, where none of its name was taken, comes within as many rounds as documents are left
+-- a document that was listed, stays and can be read, and whose name is free, comes within as many rounds as documents are left
 abbrev pub ComesInTurn : Type 0
-ComesInTurn = (name : List ℕ) (f : File) (taken : Content) (left : List Entry) (rounds : List Round) → Contains left (entry Inbox name) → IsReadable f
-    → taken name ≡ None → length left ≤ length rounds → AreRounds taken left rounds → Comes name f taken rounds
+ComesInTurn = (name : List ℕ) (f : File) (stuck : List (List ℕ)) (taken : Content) (left : List Entry) (rounds : List Round)
+    → Contains left (entry Inbox name) → IsReadable f → IsFree stuck name taken → length left ≤ length rounds → AreRounds stuck taken left rounds
+    → Comes name f taken rounds
 
 -- a new document is listed by the first call that finds nothing left of the listing before it
 abbrev pub IsListedWhileItStays : Type 0
 IsListedWhileItStays = (name : List ℕ) (f : File) (stuck : List (List ℕ)) (taken : Content) (found : List Event) (old new : List Entry) (incoming : Incoming)
-    → IsDocumentName name → IsReadable f → Through (Stands name f) found → taken name ≡ None → Next stuck old new incoming taken found
+    → IsDocumentName name → IsReadable f → Through (Stands name f) found → IsFree stuck name taken → Next stuck old new incoming taken found
     → (bytes : List ℕ) × (incoming ≡ Document bytes)
     × (Gives stuck old new bytes taken found ⊎ Contains new (entry Inbox name) ⊎ Contains new (entry Taken name))
 

@@ -5,4 +5,5 @@ pub mod Queues
 pub mod Inboxes
 pub mod Laws
 pub mod Recipes
+pub mod Stuck
 pub mod Held

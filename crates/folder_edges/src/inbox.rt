@@ -6,6 +6,7 @@ ghost use Rattle.edges.specs.Waiting.{next_of, IsShort, without_first};
 ghost use Rattle.folders.specs.History.{Did, IsUntouched, IsSettled};
 ghost use Rattle.folder_edges.specs.Giving.{StaysListed, Next, LosesNothing, EndsGiven};
 ghost use Rattle.folder_edges.specs.Entries.{names_of_first};
+ghost use Rattle.folder_edges.specs.Stuck.{Leaving};
 
 use crate::queue::Queue;
 use edges::{Answered, EdgeFault, Inbox, InboxFault, Incoming};
@@ -17,7 +18,7 @@ use std::alloc::Global;
 /// comes under its name meanwhile is a document of its own. Those that were taken before the first call come first, and then
 /// those of the folder, each in byte order of their names. The folder is listed again once they are done or passed over. What
 /// can't be taken or read now is passed over, and goes back under its name where nothing stands there by then. One that is
-/// done and can't be taken away is passed over from there on.
+/// done and can't be taken away is passed over from there on, until another that comes under its name is put in its place.
 #[derive(Drop)]
 pub struct FolderInbox<T> {
     queue: Queue<T>,
@@ -85,10 +86,9 @@ impl<T: Tray + Drop> FolderInbox<T> {
 
     /// What comes next.
     fn ask(&mut self, alloc: Global) -> Result<Incoming, InboxFault>
-        ensures tells { Did (T.history (inbox_tray self.old)) (T.history (inbox_tray self.new)) (λ taken found.
+        ensures tells { Did (T.history (inbox_tray self.old)) (T.history (inbox_tray self.new)) (Leaving (inbox_stuck self.old) (inbox_stuck self.new) (λ taken found.
             StaysListed (inbox_stuck self.old) (inbox_left self.old) (inbox_left self.new) taken found
-            × IfOk result (λ incoming. Next (inbox_stuck self.old) (inbox_left self.old) (inbox_left self.new) incoming taken found)) }
-        ensures stuck { inbox_stuck self.new ≡ inbox_stuck self.old }
+            × IfOk result (λ incoming. Next (inbox_stuck self.old) (inbox_left self.old) (inbox_left self.new) incoming taken found))) }
         ensures handed { IfOk result (IsHanded self.new) }
         ensures short { IfOk result IsShort }
         ensures cause { IsErrOf result InboxFault.Failed → Rose (T.faults (inbox_tray self.old)) (T.faults (inbox_tray self.new)) }
@@ -97,7 +97,7 @@ impl<T: Tray + Drop> FolderInbox<T> {
         ensures answered { inbox_answered self.new ≡ inbox_answered self.old }
     {
         self.let_go();
-        match self.queue.next(alloc, self.handed.as_slice()) {
+        match self.queue.next(alloc, &mut self.handed) {
             Ok(Incoming::Document(bytes)) => match self.take_in_hand(alloc) {
                 Ok(()) => Ok(Incoming::Document(bytes)),
                 Err(NoMemory) => Err(InboxFault::NoMemory),

@@ -1,9 +1,10 @@
-ghost use Rattle.std.specs.Prelude.{◌≡◌, ◌≤◌, List, ℕ, [], Some, length, drop, true, IfOk, IfSome, OnOk, OnErr, IsErrOf};
+ghost use Rattle.std.specs.Prelude.{◌≡◌, ◌≤◌, [], Some, length, drop, filter, Contains, Decides, true, IfOk, IfSome, OnOk, OnErr, IsErrOf};
 ghost use Rattle.nuc_base.specs.Faults.{Rose};
 ghost use Rattle.edges.specs.Waiting.{IsShort};
 ghost use Rattle.folders.specs.History.{Did, IsUntouched};
 ghost use Rattle.folder_edges.specs.Giving.{most_given, GivesOne, Tries, Lists, Anew, Next, StaysListed};
 ghost use Rattle.folder_edges.specs.Queues.{Takes, Reads, Skips};
+ghost use Rattle.folder_edges.specs.Stuck.{is_other, Leaving};
 ghost use Rattle.folder_edges.specs.Entries.{place_of_first};
 ghost use Rattle.folder_edges.specs.declared.listing.Place.TheVariants.{Inbox as InInbox, Taken as AmongTaken};
 
@@ -20,11 +21,25 @@ const MOST_GIVEN: usize = DOCUMENT_LIMIT + 1;
 const CLOSED: &[u8] = b"closed";
 
 /// A tray, and the documents that were listed in it and are left. Its calls are told which documents are stuck: they are done,
-/// and could not be taken away.
+/// and could not be taken away. One that is taken under the name of such a one is gone by it, and not stuck.
 #[derive(Drop)]
 pub struct Queue<T> {
     pub tray: T,
     pub left: Listing,
+}
+
+/// Whether the document of this name is stuck.
+fn is_stuck(stuck: &[Text], name: &Text) -> bool
+    ensures { Decides result (Contains stuck.now name.now) }
+{
+    stuck.contains(name)
+}
+
+/// One of this name is not stuck any more.
+fn forget(stuck: &mut Vec<Text>, name: &Text)
+    ensures { stuck.new.items ≡ filter (is_other name.now) stuck.old.items }
+{
+    stuck.retain(|other| other != name);
 }
 
 impl<T: Tray + Drop> Queue<T> {
@@ -42,15 +57,18 @@ impl<T: Tray + Drop> Queue<T> {
     }
 
     /// Takes the first that is left, which stands in the inbox. Where that cannot be, it is left out. Answers whether it did.
-    fn take_first(&mut self) -> Result<bool, NoMemory>
-        ensures told { Did (T.history (queue_tray self.old)) (T.history (queue_tray self.new)) (Takes (queue_left self.old) (queue_left self.new) result) }
+    fn take_first(&mut self, stuck: &mut Vec<Text>) -> Result<bool, NoMemory>
+        ensures told { Did (T.history (queue_tray self.old)) (T.history (queue_tray self.new)) (Leaving stuck.old.items stuck.new.items
+            (Takes stuck.old.items (queue_left self.old) (queue_left self.new) result)) }
         ensures quiet { T.faults (queue_tray self.new) ≡ T.faults (queue_tray self.old) }
     {
         let Some(name) = self.left.name() else {
             return Ok(false);
         };
-        let took = self.tray.take(name.as_bytes())?;
+        let is_done = is_stuck(stuck.as_slice(), name);
+        let took = self.tray.take(name.as_bytes(), is_done)?;
         if took {
+            forget(stuck, name);
             self.left.mark_first();
             return Ok(true);
         }
@@ -83,7 +101,7 @@ impl<T: Tray + Drop> Queue<T> {
         ensures tray { queue_tray self.new ≡ queue_tray self.old }
     {
         let is_stuck = match self.left.name() {
-            Some(name) => stuck.contains(name),
+            Some(name) => is_stuck(stuck, name),
             None => false,
         };
         if is_stuck {
@@ -93,14 +111,14 @@ impl<T: Tray + Drop> Queue<T> {
     }
 
     /// Gives the first that is left, which stands in the inbox, or leaves it out.
-    fn try_new(&mut self, alloc: Global) -> Result<Option<Bytes>, NoMemory>
+    fn try_new(&mut self, alloc: Global, stuck: &mut Vec<Text>) -> Result<Option<Bytes>, NoMemory>
         requires { place_of_first (queue_left self.old) ≡ Some InInbox }
-        ensures told { (stuck : List (List ℕ)) → Did (T.history (queue_tray self.old)) (T.history (queue_tray self.new))
-            (Tries stuck (queue_left self.old) (queue_left self.new) result) }
+        ensures told { Did (T.history (queue_tray self.old)) (T.history (queue_tray self.new)) (Leaving stuck.old.items stuck.new.items
+            (Tries stuck.old.items (queue_left self.old) (queue_left self.new) result)) }
         ensures short { IfOk result (λ o. IfSome o (λ bytes. length bytes ≤ most_given)) }
         ensures quiet { T.faults (queue_tray self.new) ≡ T.faults (queue_tray self.old) }
     {
-        let took = self.take_first()?;
+        let took = self.take_first(stuck)?;
         if took {
             self.read_first(alloc)
         } else {
@@ -111,8 +129,8 @@ impl<T: Tray + Drop> Queue<T> {
     /// Gives the first that is left, which was taken before, or leaves it out.
     fn try_taken(&mut self, alloc: Global, stuck: &[Text]) -> Result<Option<Bytes>, NoMemory>
         requires { place_of_first (queue_left self.old) ≡ Some AmongTaken }
-        ensures told { Did (T.history (queue_tray self.old)) (T.history (queue_tray self.new))
-            (Tries stuck.now (queue_left self.old) (queue_left self.new) result) }
+        ensures told { Did (T.history (queue_tray self.old)) (T.history (queue_tray self.new)) (Leaving stuck.now stuck.now
+            (Tries stuck.now (queue_left self.old) (queue_left self.new) result)) }
         ensures short { IfOk result (λ o. IfSome o (λ bytes. length bytes ≤ most_given)) }
         ensures quiet { T.faults (queue_tray self.new) ≡ T.faults (queue_tray self.old) }
     {
@@ -124,23 +142,23 @@ impl<T: Tray + Drop> Queue<T> {
     }
 
     /// Gives the first that is left, or leaves it out.
-    fn try_first(&mut self, alloc: Global, stuck: &[Text]) -> Result<Option<Bytes>, NoMemory>
-        ensures told { Did (T.history (queue_tray self.old)) (T.history (queue_tray self.new))
-            (Tries stuck.now (queue_left self.old) (queue_left self.new) result) }
+    fn try_first(&mut self, alloc: Global, stuck: &mut Vec<Text>) -> Result<Option<Bytes>, NoMemory>
+        ensures told { Did (T.history (queue_tray self.old)) (T.history (queue_tray self.new)) (Leaving stuck.old.items stuck.new.items
+            (Tries stuck.old.items (queue_left self.old) (queue_left self.new) result)) }
         ensures short { IfOk result (λ o. IfSome o (λ bytes. length bytes ≤ most_given)) }
         ensures quiet { T.faults (queue_tray self.new) ≡ T.faults (queue_tray self.old) }
     {
         match self.left.place() {
-            Some(Place::Inbox) => self.try_new(alloc),
-            Some(Place::Taken) => self.try_taken(alloc, stuck),
+            Some(Place::Inbox) => self.try_new(alloc, stuck),
+            Some(Place::Taken) => self.try_taken(alloc, stuck.as_slice()),
             None => Ok(None),
         }
     }
 
     /// The first of those that are left that can be had. Those before it are left out.
-    fn give(&mut self, alloc: Global, stuck: &[Text]) -> Result<Option<Bytes>, NoMemory>
-        ensures told { Did (T.history (queue_tray self.old)) (T.history (queue_tray self.new))
-            (GivesOne stuck.now (queue_left self.old) (queue_left self.new) result) }
+    fn give(&mut self, alloc: Global, stuck: &mut Vec<Text>) -> Result<Option<Bytes>, NoMemory>
+        ensures told { Did (T.history (queue_tray self.old)) (T.history (queue_tray self.new)) (Leaving stuck.old.items stuck.new.items
+            (GivesOne stuck.old.items (queue_left self.old) (queue_left self.new) result)) }
         ensures short { IfOk result (λ o. IfSome o (λ bytes. length bytes ≤ most_given)) }
         ensures quiet { T.faults (queue_tray self.new) ≡ T.faults (queue_tray self.old) }
     {
@@ -158,7 +176,7 @@ impl<T: Tray + Drop> Queue<T> {
     /// Lists the documents. Where that fails those that are left stay.
     fn list(&mut self, alloc: Global) -> Result<(), InboxFault>
         ensures told { Did (T.history (queue_tray self.old)) (T.history (queue_tray self.new)) (λ taken found. IsUntouched found
-            × OnOk result (Lists (queue_left self.new) taken found)) }
+            × OnOk result (Lists [] (queue_left self.new) taken found)) }
         ensures kept { OnErr result (queue_left self.new ≡ queue_left self.old) }
         ensures cause { IsErrOf result InboxFault.Failed → Rose (T.faults (queue_tray self.old)) (T.faults (queue_tray self.new)) }
         ensures quiet { ¬ (IsErrOf result InboxFault.Failed) → T.faults (queue_tray self.new) ≡ T.faults (queue_tray self.old) }
@@ -177,9 +195,9 @@ impl<T: Tray + Drop> Queue<T> {
 
     /// What comes after a new listing. Whether the inbox is closed is asked before it, so that no document is missed that came
     /// before it was closed.
-    fn give_anew(&mut self, alloc: Global, stuck: &[Text]) -> Result<Incoming, InboxFault>
-        ensures told { Did (T.history (queue_tray self.old)) (T.history (queue_tray self.new)) (λ taken found.
-            IfOk result (λ incoming. Anew stuck.now (queue_left self.new) incoming taken found)) }
+    fn give_anew(&mut self, alloc: Global, stuck: &mut Vec<Text>) -> Result<Incoming, InboxFault>
+        ensures told { Did (T.history (queue_tray self.old)) (T.history (queue_tray self.new)) (Leaving stuck.old.items stuck.new.items (λ taken found.
+            IfOk result (λ incoming. Anew stuck.old.items (queue_left self.new) incoming taken found))) }
         ensures short { IfOk result IsShort }
         ensures cause { IsErrOf result InboxFault.Failed → Rose (T.faults (queue_tray self.old)) (T.faults (queue_tray self.new)) }
         ensures quiet { ¬ (IsErrOf result InboxFault.Failed) → T.faults (queue_tray self.new) ≡ T.faults (queue_tray self.old) }
@@ -196,10 +214,10 @@ impl<T: Tray + Drop> Queue<T> {
     }
 
     /// What comes next.
-    pub fn next(&mut self, alloc: Global, stuck: &[Text]) -> Result<Incoming, InboxFault>
-        ensures told { Did (T.history (queue_tray self.old)) (T.history (queue_tray self.new)) (λ taken found.
-            StaysListed stuck.now (queue_left self.old) (queue_left self.new) taken found
-            × IfOk result (λ incoming. Next stuck.now (queue_left self.old) (queue_left self.new) incoming taken found)) }
+    pub fn next(&mut self, alloc: Global, stuck: &mut Vec<Text>) -> Result<Incoming, InboxFault>
+        ensures told { Did (T.history (queue_tray self.old)) (T.history (queue_tray self.new)) (Leaving stuck.old.items stuck.new.items (λ taken found.
+            StaysListed stuck.old.items (queue_left self.old) (queue_left self.new) taken found
+            × IfOk result (λ incoming. Next stuck.old.items (queue_left self.old) (queue_left self.new) incoming taken found))) }
         ensures short { IfOk result IsShort }
         ensures cause { IsErrOf result InboxFault.Failed → Rose (T.faults (queue_tray self.old)) (T.faults (queue_tray self.new)) }
         ensures quiet { ¬ (IsErrOf result InboxFault.Failed) → T.faults (queue_tray self.new) ≡ T.faults (queue_tray self.old) }

@@ -1,8 +1,10 @@
 -- What is taken, event by event.
-use Rattle.std.proofs.Common.{◌≡◌, inl, inr, List, ℕ, [], ◌∷◌, ◌++◌, Bool, true, false, nat_eq, Option, Some, None, if◌then◌else◌, refl, sym, ◌∙◌, ap, append_assoc, subst}
+use Rattle.std.proofs.Common.{◌≡◌, inl, inr, List, ℕ, [], ◌∷◌, ◌++◌, Bool, true, false, nat_eq, Option, Some, None, if◌then◌else◌, refl, sym, ◌∙◌, ap, append_assoc, subst, arith}
 use Rattle.std.specs.Cmp.Lexicographic.{pointwise}
+use Rattle.std.specs.List.{Contains}
 use Rattle.std.proofs.lemmas.List.{append-nil}
-use Rattle.folders.specs.History.{File, Content, Event, Found, Took, Returned, Ended, Synced, IsUntouched, HasSync, IsSettled, Did, with_file, after_event, taken_after, taken_in, nothing_taken}
+use Rattle.std.proofs.lemmas.List.Elements.{Contains-append_right}
+use Rattle.folders.specs.History.{File, Content, Event, Found, Took, Returned, Ended, Synced, IsUntouched, HasSync, IsSettled, Did, with_file, after_event, taken_after, taken_in, nothing_taken, taken_names}
 use Rattle.folders.specs.declared.lines.Line.{Line}
 use Rattle.folders.specs.declared.lines.Line.TheVariants.{Changed, Looked, Synced as MadeStable, Took as Moved, Returned as PutBack, Ended as TookAway}
 use Rattle.folders.specs.declared.lines.Side.TheVariants.{Taken}
@@ -25,6 +27,24 @@ untouched_keeps taken (Returned n ∷ x) h = absurd h
 untouched_keeps taken (Ended n ∷ x) h = absurd h
 untouched_keeps taken (Synced ∷ x) h = untouched_keeps taken x h
 
+-- ---- under which names something was taken
+
+pub names_both : (x y : List Event) → taken_names (x ++ y) ≡ taken_names x ++ taken_names y
+names_both [] y = refl
+names_both (Found c ∷ x) y = names_both x y
+names_both (Took n f ∷ x) y = ap (λ (l : List (List ℕ)). n ∷ l) (names_both x y)
+names_both (Returned n ∷ x) y = names_both x y
+names_both (Ended n ∷ x) y = names_both x y
+names_both (Synced ∷ x) y = names_both x y
+
+pub no_names : (x : List Event) → IsUntouched x → taken_names x ≡ []
+no_names [] h = refl
+no_names (Found c ∷ x) h = no_names x h
+no_names (Took n f ∷ x) h = absurd h
+no_names (Returned n ∷ x) h = absurd h
+no_names (Ended n ∷ x) h = absurd h
+no_names (Synced ∷ x) h = no_names x h
+
 -- the name that was changed, and another
 pub with_own : (name : List ℕ) (file : Option File) (taken : Content) → with_file name file taken name ≡ file
 with_own name file taken = ap (λ (b : Bool). if b then file else taken name) (own_name name)
@@ -34,6 +54,23 @@ with_other name n file taken other = elim (either (pointwise nat_eq name n)) [
   | inl same ↦ absurd (other (same_names name n same))
   | inr apart ↦ ap (λ (b : Bool). if b then file else taken n) apart
 ]
+
+with_none : (name n : List ℕ) (taken : Content) → taken n ≡ None → with_file name None taken n ≡ None
+with_none name n taken none = elim (either (pointwise nat_eq name n)) [
+  | inl same ↦ ap (λ (b : Bool). if b then None else taken n) same
+  | inr apart ↦ ap (λ (b : Bool). if b then None else taken n) apart ∙ none
+]
+
+-- where nothing was there and nothing was taken, nothing is there
+pub still_none : (name : List ℕ) (taken : Content) (x : List Event) → (Contains (taken_names x) name → ⊥) → taken name ≡ None → taken_after taken x name ≡ None
+still_none name taken [] apart none = none
+still_none name taken (Found c ∷ x) apart none = still_none name taken x apart none
+still_none name taken (Took n f ∷ x) apart none = still_none name (with_file n (Some f) taken) x
+    (λ later. apart (Contains-append_right (n ∷ []) (taken_names x) name later))
+    (with_other n name (Some f) taken (λ same. apart (0, omega arith, same)) ∙ none)
+still_none name taken (Returned n ∷ x) apart none = still_none name (with_file n None taken) x apart (with_none n name taken none)
+still_none name taken (Ended n ∷ x) apart none = still_none name (with_file n None taken) x apart (with_none n name taken none)
+still_none name taken (Synced ∷ x) apart none = still_none name taken x apart none
 
 -- ---- what calls tell
 

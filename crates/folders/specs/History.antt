@@ -3,8 +3,8 @@ use Rattle.std.specs.Prelude.{◌≡◌, ◌⊎◌, ℕ, List, [], ◌∷◌, �
 use Rattle.std.specs.Cmp.Lexicographic.{pointwise}
 use Rattle.folders.specs.declared.identity.Identity.{Identity}
 
--- What stands under a name: which file it is, whether it is a plain file (and no folder, link or pipe), whether it can be opened and read
--- now, and its bytes.
+-- What stands under a name: which file it is, whether it is a plain file (and no folder, link or pipe), whether it can be read, and its bytes.
+-- One that can be read can be opened and read each time; of a tray it can be taken before, and listed then.
 pub record File : Type 0 where
   pub identity : Identity
   pub is_plain : Bool
@@ -69,6 +69,15 @@ IsSettled (Took name file ∷ events) = HasSync events
 IsSettled (Returned name ∷ events) = HasSync events
 IsSettled (Ended name ∷ events) = HasSync events
 IsSettled (Synced ∷ events) = IsSettled events
+
+-- the names under which something was taken
+abbrev pub taken_names : List Event → List (List ℕ)
+taken_names [] = []
+taken_names (Found c ∷ events) = taken_names events
+taken_names (Took name file ∷ events) = name ∷ taken_names events
+taken_names (Returned name ∷ events) = taken_names events
+taken_names (Ended name ∷ events) = taken_names events
+taken_names (Synced ∷ events) = taken_names events
 
 -- ---- what is taken, which is ours alone
 

@@ -6,6 +6,7 @@ use Rattle.folders.specs.declared.folder.FolderFault.{FolderFault}
 use Rattle.folders.specs.declared.folder.FolderFault.TheVariants.{Failed, NoMemory}
 use Rattle.folders.specs.History.{File}
 use Rattle.folders.specs.Calls.{IsReadable}
+use Rattle.folders.specs.Trays.{IsFree}
 
 -- it was opened
 pub record IsOpenedFrom (file : Option File) (most : ℕ) (o : Opened) : Type 0 where
@@ -38,3 +39,8 @@ LooksAt file false = IsPlainFile file → ⊥
 abbrev pub LooksReadable : Option File → Bool → Type 0
 LooksReadable file true = ⊤
 LooksReadable file false = IsUnreadable file
+
+-- whether the name is free
+abbrev pub LooksFree : Option File → Bool → Bool → Type 0
+LooksFree file is_done true = IsFree is_done file
+LooksFree file is_done false = IsFree is_done file → ⊥

@@ -4,7 +4,7 @@ ghost use Rattle.nuc_base.specs.Failing.{faults_of};
 ghost use Rattle.folders.specs.History.{Did, IsUntouched, HasSync};
 ghost use Rattle.folders.specs.Calls.{IsListing, LooksUp};
 ghost use Rattle.folders.specs.Trays.{ListsTaken, Takes, IsReadFrom, OpensTaken, PutsBack, EndsIt};
-ghost use Rattle.folders.specs.Placed.{LooksAt, LooksReadable, IsUnreadable};
+ghost use Rattle.folders.specs.Placed.{LooksAt, LooksReadable, LooksFree, IsUnreadable};
 ghost use Rattle.folders.specs.Lines.{placed_file, stands_in};
 
 use crate::folder::FolderFault;
@@ -33,6 +33,13 @@ fn looks_readable(placed: Option<&Placed>) -> bool
     }
 }
 
+/// Whether the name is free of what was taken under it: there is nothing, or it is done.
+fn is_free(placed: Option<&Placed>, is_done: bool) -> bool
+    ensures { LooksFree (option_map (λ p. placed_file p.now) placed.entry) is_done result }
+{
+    is_done || placed.is_none()
+}
+
 /// The first bytes of what was taken, where it is a plain file that can be read.
 fn read(alloc: Global, placed: Option<&Placed>, most: usize) -> Result<Option<Bytes>, NoMemory>
     ensures some { IfOk result (λ o. IfSome o (IsReadFrom (option_map (λ p. placed_file p.now) placed.entry) most)) }
@@ -51,14 +58,14 @@ impl MemoryFolder {
     ghost use Rattle.folders.specs.Memory.{folder_history, folder_failing, folder_refusing};
 
     /// Takes what stands under the name.
-    fn take_now(&mut self, name: &[u8]) -> Result<bool, NoMemory>
-        ensures told { Did (Some (folder_history self.old)) (Some (folder_history self.new)) (Takes name.now result) }
+    fn take_now(&mut self, name: &[u8], is_done: bool) -> Result<bool, NoMemory>
+        ensures told { Did (Some (folder_history self.old)) (Some (folder_history self.new)) (Takes name.now is_done result) }
         ensures failing { folder_failing self.new ≡ folder_failing self.old }
         ensures refusing { folder_refusing self.new ≡ folder_refusing self.old }
     {
         let own = Bytes::from_slice(self.alloc, name)?;
         self.stir()?;
-        if standing(Side::Taken, self.lines.as_slice(), name).is_some() {
+        if !is_free(standing(Side::Taken, self.lines.as_slice(), name), is_done) {
             return Ok(false);
         }
         if !looks_readable(standing(Side::Open, self.lines.as_slice(), name)) {
@@ -75,7 +82,7 @@ impl MemoryFolder {
 
     /// Puts back what was taken under the name.
     fn put_back_now(&mut self, name: &[u8]) -> Result<bool, NoMemory>
-        ensures told { Did (Some (folder_history self.old)) (Some (folder_history self.new)) (PutsBack name.now result) }
+        ensures told { Did (Some (folder_history self.old)) (Some (folder_history self.new)) (PutsBack name.now ⊥ result) }
         ensures failing { folder_failing self.new ≡ folder_failing self.old }
         ensures refusing { folder_refusing self.new ≡ folder_refusing self.old }
     {
@@ -135,8 +142,8 @@ impl Tray for MemoryFolder {
         Ok(is_plain(standing(Side::Open, self.lines.as_slice(), name)))
     }
 
-    fn take(&mut self, name: &[u8]) -> Result<bool, NoMemory> {
-        self.take_now(name)
+    fn take(&mut self, name: &[u8], is_done: bool) -> Result<bool, NoMemory> {
+        self.take_now(name, is_done)
     }
 
     fn open(&mut self, alloc: Global, name: &[u8], most: usize) -> Result<Option<Bytes>, NoMemory> {

@@ -18,7 +18,7 @@ pub trait Tray {
     /// How often the documents could not be listed.
     ghost faults: { Self → ℕ };
 
-    /// How often one that is done could not be taken away, or a change could not be made stable.
+    /// How often one could not be put back or taken away, or a change could not be made stable.
     ghost missed: { Self → ℕ };
 
     /// The names of all that stands among the documents, in any order. One that stands there during the whole call is among
@@ -30,7 +30,7 @@ pub trait Tray {
         ensures later { faults self.old ≤ faults self.new }
         ensures others { missed self.new ≡ missed self.old };
 
-    /// The names of all that was taken and is not done, in any order.
+    /// The names of what was taken and is there, in any order. What can't be listed or read may be left out.
     fn list_taken(&mut self, alloc: Global) -> Result<List<Bytes>, NoMemory>
         ensures told { Did (history self.old) (history self.new) (λ taken found. IsUntouched found × IfOk result (ListsTaken taken)) }
         ensures quiet { faults self.new ≡ faults self.old }
@@ -42,10 +42,11 @@ pub trait Tray {
         ensures quiet { faults self.new ≡ faults self.old }
         ensures others { missed self.new ≡ missed self.old };
 
-    /// Moves what stands under this name to those that were taken, where it looks like a file that can be read and none of that
-    /// name is there. Answers whether it did. Another file may come under the name between the look and the move.
-    fn take(&mut self, name: &[u8]) -> Result<bool, NoMemory>
-        ensures told { Did (history self.old) (history self.new) (Takes name.now result) }
+    /// Moves what stands under this name to those that were taken, where it looks like a file that can be read. One of that name
+    /// that is there is gone by it where it is done, and else nothing is moved. Answers whether it was. Another file may come under
+    /// the name between the look and the move.
+    fn take(&mut self, name: &[u8], is_done: bool) -> Result<bool, NoMemory>
+        ensures told { Did (history self.old) (history self.new) (Takes name.now is_done result) }
         ensures quiet { faults self.new ≡ faults self.old }
         ensures others { missed self.new ≡ missed self.old };
 
@@ -56,11 +57,11 @@ pub trait Tray {
         ensures quiet { faults self.new ≡ faults self.old }
         ensures others { missed self.new ≡ missed self.old };
 
-    /// Moves one that was taken back under its name, where nothing stands there. Answers whether it did.
+    /// Moves one that was taken back under its name, where nothing stands there and the system lets it. Answers whether it did.
     fn put_back(&mut self, name: &[u8]) -> Result<bool, NoMemory>
-        ensures told { Did (history self.old) (history self.new) (PutsBack name.now result) }
+        ensures told { Did (history self.old) (history self.new) (PutsBack name.now (Rose (missed self.old) (missed self.new)) result) }
         ensures quiet { faults self.new ≡ faults self.old }
-        ensures others { missed self.new ≡ missed self.old };
+        ensures later { missed self.old ≤ missed self.new };
 
     /// Takes away one that was taken and is done, by its removal or by a move to where the tray's maker said.
     fn end(&mut self, name: &[u8]) -> Result<(), FolderFault>

@@ -1,5 +1,6 @@
 //! Days of an inbox and of recipes by hand.
 use crate::scripts::{ask, folder};
+use edges::{Inbox, Incoming};
 use folder_edges::{FolderInbox, FolderRecipes};
 use nuc_base::NoMemory;
 use std::alloc::Global;
@@ -15,7 +16,7 @@ struct Day {
 
 // A question that finds nothing left looks twice: whether the inbox is closed, and to list. To take looks twice, before the move
 // and at it; to put back looks once.
-const DAYS: [Day; 12] = [
+const DAYS: [Day; 13] = [
     // In byte order, each once.
     Day {
         script: b"1:b.json=2f 1:a.json=1f",
@@ -103,13 +104,21 @@ const DAYS: [Day; 12] = [
         questions: 4,
         told: b"?1--",
     },
-    // One that is done can't be taken away: it is passed over from there on, and its name is not free.
+    // One that is done can't be taken away: it is passed over from there on, until another comes under its name.
     Day {
-        script: b"1:a.json=1f 1:b.json=2f 7:a.json=3f",
+        script: b"1:a.json=1f 1:b.json=2f 9:a.json=3f",
         failing: &[],
         refusing: &[0],
-        questions: 4,
-        told: b"12--",
+        questions: 5,
+        told: b"12-3-",
+    },
+    // What came in its place can't be read, and another stands under the name by then: it is not stuck, and not given either.
+    Day {
+        script: b"1:a.json=1f 5:a.json=2f 8:a.json=3u 9:a.json=4f",
+        failing: &[],
+        refusing: &[0],
+        questions: 3,
+        told: b"1--",
     },
 ];
 
@@ -136,6 +145,21 @@ fn another_inbox(rt: HostRuntime) -> Result<(), Fail> {
     let mut again = FolderInbox::new(alloc, inbox.into_tray());
     let told = ask(alloc, &mut again, 3)?;
     assert_eq!(rt; told.as_slice(), b"21-".as_slice());
+    Ok(())
+}
+
+/// What was put in the place of one that is stuck is given again until it is done.
+#[test]
+fn in_its_place(rt: HostRuntime) -> Result<(), Fail> {
+    let alloc = rt.alloc();
+    let folder = folder(alloc, b"1:a.json=1f 5:a.json=2f", &[], &[0])?;
+    let mut inbox = FolderInbox::new(alloc, folder);
+    let told = ask(alloc, &mut inbox, 1)?;
+    assert_eq!(rt; told.as_slice(), b"1".as_slice());
+    let is_given = matches!(inbox.next(alloc), Ok(Incoming::Document(_)));
+    let told = ask(alloc, &mut inbox, 2)?;
+    assert!(rt; is_given);
+    assert_eq!(rt; told.as_slice(), b"2-".as_slice());
     Ok(())
 }
 

@@ -26,8 +26,13 @@ struct Deed {
 struct World<'a> {
     deeds: &'a [Deed],
     looks: usize,
+    /// Which of the calls fail that take away or make stable.
+    refusing: &'a [u64],
+    calls: u64,
     open: [File; NAMES],
     taken: [File; NAMES],
+    /// Those that are done and could not be taken away.
+    stuck: [bool; NAMES],
     /// Those that are left: whether each was taken, and its name.
     left: Vec<(bool, usize)>,
 }
@@ -61,17 +66,49 @@ impl<'a> World<'a> {
         }
     }
 
-    /// Moves the file out, where it looks like one that can be read and none of its name was.
+    /// Moves the file out, where it looks like one that can be read and none of its name was, or that is done.
     fn take(&mut self, name: usize) -> bool {
         self.look();
-        if file_at(&self.taken, name).is_some() || !is_readable(file_at(&self.open, name)) {
+        let is_held = file_at(&self.taken, name).is_some() && !self.is_stuck(name);
+        if is_held || !is_readable(file_at(&self.open, name)) {
             return false;
         }
         self.look();
         let file = file_at(&self.open, name);
+        if file.is_none() {
+            return false;
+        }
         put(&mut self.taken, name, file);
         put(&mut self.open, name, None);
-        file.is_some()
+        self.set_stuck(name, false);
+        true
+    }
+
+    fn is_stuck(&self, name: usize) -> bool {
+        matches!(self.stuck.as_slice().get(name), Some(true))
+    }
+
+    fn set_stuck(&mut self, name: usize, is_stuck: bool) {
+        if let Some(place) = self.stuck.as_mut_slice().get_mut(name) {
+            *place = is_stuck;
+        }
+    }
+
+    /// Whether the next of the calls fails that take away or make stable.
+    fn is_refused(&mut self) -> bool {
+        let is_refused = self.refusing.contains(&self.calls);
+        self.calls = self.calls.saturating_add(1);
+        is_refused
+    }
+
+    /// Takes away the one that was given.
+    fn end(&mut self, name: usize) {
+        if self.is_refused() {
+            self.set_stuck(name, true);
+        } else {
+            put(&mut self.taken, name, None);
+            let _synced = self.is_refused();
+        }
     }
 
     /// The digit of one that was taken. One that can't be read goes back, where nothing stands there.
@@ -94,10 +131,15 @@ impl<'a> World<'a> {
             let Some((is_taken, name)) = self.left.pop() else {
                 return None;
             };
-            if is_taken || self.take(name) {
+            let is_to_be_read = if is_taken {
+                !self.is_stuck(name)
+            } else {
+                self.take(name)
+            };
+            if is_to_be_read {
                 let read = self.read(name);
                 if read.is_some() {
-                    put(&mut self.taken, name, None);
+                    self.end(name);
                     return read;
                 }
             }
@@ -185,15 +227,19 @@ fn answers_alike(alloc: Global, state: &mut u64) -> Result<bool, NoMemory> {
     for _ in 0..10 {
         deeds.push(drawn(state))?;
     }
+    let refusing = [u64::from(draw(state)), u64::from(draw(state) % 8)];
     let mut world = World {
         deeds: deeds.as_slice(),
         looks: 0,
+        refusing: &refusing,
+        calls: 0,
         open: [None; NAMES],
         taken: [None; NAMES],
+        stuck: [false; NAMES],
         left: Vec::new(alloc),
     };
     let script = script(alloc, deeds.as_slice())?;
-    let mut inbox = FolderInbox::new(alloc, folder(alloc, script.as_slice(), &[], &[])?);
+    let mut inbox = FolderInbox::new(alloc, folder(alloc, script.as_slice(), &[], &refusing)?);
     for _ in 0..12 {
         let told = ask(alloc, &mut inbox, 1)?;
         if told.as_slice() != [world.ask()?].as_slice() {

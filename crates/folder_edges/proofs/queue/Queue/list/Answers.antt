@@ -1,4 +1,4 @@
-use Rattle.std.proofs.Common.{List, ℕ, subst}
+use Rattle.std.proofs.Common.{List, ℕ, [], subst}
 use Rattle.folders.specs.Calls.{IsListing}
 use Rattle.folders.specs.Trays.{ListsTaken}
 use Rattle.folder_edges.specs.Entries.{AreEntriesOf}
@@ -15,7 +15,7 @@ returns-in-Ok-clause-told g c =
 
 pub returns-in_err-self-in-Ok-clause-told : goal.returns-in_err-self-in-Ok-clause-told
 returns-in_err-self-in-Ok-clause-told g c =
-    untouched_failed (g.T.Tray.history c.args.self.now.tray) (g.T.Tray.history c.list_taken.new.self) (g.T.Tray.history c.list.new.self) (λ taken found. ListsTaken taken c.in_ok-taken.taken) (λ taken found. IsListing found c.in-Ok.names) (λ taken found. Lists c.args.self.now.left taken found)
+    untouched_failed (g.T.Tray.history c.args.self.now.tray) (g.T.Tray.history c.list_taken.new.self) (g.T.Tray.history c.list.new.self) (λ taken found. ListsTaken taken c.in_ok-taken.taken) (λ taken found. IsListing found c.in-Ok.names) (λ taken found. Lists [] c.args.self.now.left taken found)
     c.from_residual-in_err-self-in-Ok.result c.from_residual-in_err-self-in-Ok.ensures.0 c.in_ok-taken.ensures.told c.in-Ok.ensures.told
 
 pub returns-in-Err-Failed-clause-told : goal.returns-in-Err-Failed-clause-told

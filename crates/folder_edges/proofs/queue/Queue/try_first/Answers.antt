@@ -3,7 +3,5 @@ use Rattle.folder_edges.proofs.Trying.{tries_empty}
 use Rattle.folder_edges.proofs.queue.Queue.try_first.Goals as goal
 
 pub returns-in-None-clause-told : goal.returns-in-None-clause-told
-returns-in-None-clause-told g c = tries_empty (g.T.Tray.history c.args.self.now.tray) c.args.stuck.now c.args.self.now.left (sym c.place.ensures ∙ c.in-None.is)
-
-pub returns-in-Some-Inbox-clause-told : goal.returns-in-Some-Inbox-clause-told
-returns-in-Some-Inbox-clause-told g c = c.try_new.ensures.told c.args.stuck.now
+returns-in-None-clause-told g c =
+    tries_empty (g.T.Tray.history c.args.self.now.tray) c.args.stuck.now.items c.args.self.now.left (sym c.place.ensures ∙ c.in-None.is)

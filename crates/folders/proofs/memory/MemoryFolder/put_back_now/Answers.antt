@@ -1,4 +1,4 @@
-use Rattle.std.proofs.Common.{[], ◌∷◌, inr, ◌∙◌, ap, List}
+use Rattle.std.proofs.Common.{[], ◌∷◌, inl, inr, ◌∙◌, ap, List}
 use Rattle.folders.specs.declared.lines.Line.{Line}
 use Rattle.folders.specs.declared.lines.Side.TheVariants.{Open, Taken}
 use Rattle.folders.specs.History.{Found}
@@ -13,10 +13,10 @@ returns-in_default-clause-told c = (
   c.in_ok-stir.ensures.looked,
   (
     tt,
-    inr (looked_taken (folder_history c.args.self.now) (folder_lines c.stir.new.self) (stands_in Open (folder_lines c.stir.new.self)) c.args.name.now
+    inr (inl (looked_taken (folder_history c.args.self.now) (folder_lines c.stir.new.self) (stands_in Open (folder_lines c.stir.new.self)) c.args.name.now
         c.in_ok-stir.ensures.looked
         ∙ nothing_stands c.standing-2.result (stands_in Taken (folder_lines c.stir.new.self) c.args.name.now)
-        (c.standing-2.ensures ∙ ap (λ (l : List Line). stands_in Taken l c.args.name.now) c.as_slice-2.ensures.value) c.in_default.is),
+        (c.standing-2.ensures ∙ ap (λ (l : List Line). stands_in Taken l c.args.name.now) c.as_slice-2.ensures.value) c.in_default.is)),
   ),
 )
 
