@@ -1,125 +1,85 @@
-//! The way of a document through the folders: from the inbox to those that were taken, and away once it was handled.
-ghost use Rattle.std.specs.Prelude.{◌≤◌, length, IfOk, IfSome};
+//! The real tray: the way of a document through the folders, from the inbox to those that were taken, and back or away.
+ghost use Rattle.std.specs.Prelude.{◌≡◌, ◌≤◌, None, length, IfOk, IfSome, OnOk, IsErrOf};
+ghost use Rattle.nuc_base.specs.Faults.{Rose, HasCause};
+ghost use Rattle.edges.specs.Inboxes.{unanswered};
+ghost use Rattle.folder_edges.specs.Inboxes.{inbox_tray, inbox_answered};
+ghost use Rattle.host_edges.specs.Real.{tray_faults, tray_missed};
 
+use crate::calls::{Calls, HANDLED, INBOX, Kind, Place, TAKEN};
 use crate::told::Told;
-use host_files::{
-    Event, JsonNames, Paths, is_file, json_names, make_folder, may_read, read_prefix, sync_folder,
-};
-use nuc_base::{Bytes, DOCUMENT_LIMIT, NoMemory};
+use folder_edges::FolderInbox;
+use folders::{FolderFault, Tray};
+use host_files::Event;
+use nuc_base::{Bytes, List, NoMemory};
 use std::alloc::Global;
-use std::fs::{File, Files, Metadata};
+use std::fs::{File, Files};
+use std::io;
 use std::io::ErrorKind;
-use std::os::unix::fs::MetadataExt;
 use std::rt::Clock;
-use std::{fs, io};
 
-/// Where documents come in, below the folder of the device.
-pub(crate) const INBOX: &str = "inbox";
-
-/// Where the program keeps those that it took, until they are handled.
-pub(crate) const TAKEN: &str = "taken";
-
-/// Where those go that were handled, where it stands.
-const HANDLED: &str = "handled";
-
-/// The file that closes the inbox.
-const CLOSED: &str = "closed";
-
-/// The most bytes of a document that are given: one more than a document may have.
-const MOST_GIVEN: usize = DOCUMENT_LIMIT + 1;
-
-/// What stands under a name. A link is no file, whatever it leads to.
-#[derive(Clone, Copy, Debug, PartialEq, Eq)]
-enum Kind {
-    Nothing,
-    File,
-    Other,
-}
-
-/// A folder of the system, wherever it is moved.
-#[derive(Clone, Copy, Debug, PartialEq, Eq)]
-struct Place {
-    device: u64,
-    number: u64,
-}
-
-/// The folders of documents below a root. What cannot be taken, read or taken away is told in the log of events and is no fault:
-/// want of memory alone is an error of the calls on one document.
+/// The documents in these folders. What cannot be taken, read or taken away is told in the log of events.
 #[derive(Drop)]
-pub(crate) struct Tray<'a, R: Files<File = File>> {
-    rt: &'a R,
-    paths: Paths<'a>,
-    /// The path that something is moved to.
-    target: Paths<'a>,
-    pub(crate) told: Told<'a, R>,
+struct Documents<'a, R: Files<File = File>> {
+    calls: Calls<'a, R>,
+    alloc: Global,
+    told: Told<'a, R>,
     /// The root, once it was looked at.
     root: Option<Place>,
-    /// Documents that were handled and could not be taken away.
-    left: Vec<String>,
+    /// The document whose taking was told last, until it is moved.
+    begun: Option<String>,
+    /// The last that was ended went to those that were handled.
+    is_kept: bool,
 }
 
-impl<'a, R: Files<File = File> + Clock + AllocGlobal> Tray<'a, R> {
-    pub(crate) fn new(rt: &'a R, root: &'a str) -> Result<Self, NoMemory> {
+/// The name as a text. Those of documents are texts.
+fn text_of(name: &[u8]) -> io::Result<&str> {
+    str::from_utf8(name).map_err(|_| io::Error::from(ErrorKind::InvalidInput))
+}
+
+fn is_of_memory(error: &io::Error) -> bool {
+    error.kind() == ErrorKind::OutOfMemory
+}
+
+/// The answer, where only want of memory is an error.
+fn or_memory<T: Drop>(answer: io::Result<T>, otherwise: T) -> Result<T, NoMemory> {
+    match answer {
+        Ok(value) => Ok(value),
+        Err(error) if is_of_memory(&error) => Err(NoMemory),
+        Err(_) => Ok(otherwise),
+    }
+}
+
+impl<'a, R: Files<File = File> + Clock + AllocGlobal> Documents<'a, R> {
+    fn new(rt: &'a R, root: &'a str) -> Result<Self, NoMemory> {
         let alloc = rt.alloc();
-        Ok(Tray {
-            rt,
-            paths: Paths::new(alloc, root)?,
-            target: Paths::new(alloc, root)?,
+        Ok(Documents {
+            calls: Calls::new(rt, alloc, root)?,
+            alloc,
             told: Told::new(rt, root, "inbox"),
             root: None,
-            left: Vec::new(alloc),
+            begun: None,
+            is_kept: false,
         })
     }
 
-    /// Tells of a fault of the call at the path that was used last.
-    pub(crate) fn tell_fault(&self, call: &str, error: &io::Error) {
-        self.told.fault(call, self.paths.last(), error);
-    }
-
-    /// Makes room to remember one more document that cannot be taken away.
-    pub(crate) fn make_room(&mut self) -> io::Result<()> {
-        Ok(self.left.reserve(1)?)
-    }
-
-    /// Whether the inbox was closed.
-    pub(crate) fn is_closed(&mut self) -> io::Result<bool> {
-        let path = self.paths.entry(INBOX, CLOSED)?;
-        Ok(is_file(self.rt, path).unwrap_or(false))
-    }
-
-    /// The names of the documents in the inbox. It fails where the root is gone, or another folder than at the first call.
-    pub(crate) fn list_inbox(&mut self) -> io::Result<Vec<String>> {
-        self.told.begin();
-        self.check_root()?;
-        let found = json_names(self.rt, self.paths.below(INBOX)?)?;
-        Ok(self.known(INBOX, found))
-    }
-
-    /// The names of the documents that were taken and are not handled.
-    pub(crate) fn list_taken(&mut self) -> io::Result<Vec<String>> {
-        let found = match json_names(self.rt, self.paths.below(TAKEN)?) {
-            Ok(found) => found,
-            Err(error) if error.kind() == ErrorKind::OutOfMemory => return Err(error),
-            Err(error) => {
-                self.told.pass_over_for(".", TAKEN, &error);
-                JsonNames::none(self.rt.alloc())
+    /// The names of what stands in the inbox. It fails where the root is gone, or another folder than at the first call.
+    fn list(&mut self, alloc: Global) -> io::Result<List<Bytes>> {
+        let listed = self.try_list(alloc);
+        if let Err(error) = &listed {
+            if !is_of_memory(error) {
+                self.told.fault("next", self.calls.last(), error);
             }
-        };
-        let mut names = self.known(TAKEN, found);
-        names.retain(|name| !self.left.contains(name));
-        Ok(names)
+        }
+        listed
     }
 
-    /// The names that are text. Of the others it tells.
-    fn known(&mut self, folder: &str, found: JsonNames) -> Vec<String> {
-        for name in &found.no_text {
-            self.told.pass_over(folder, name.as_str());
-        }
-        found.names
+    fn try_list(&mut self, alloc: Global) -> io::Result<List<Bytes>> {
+        self.check_root()?;
+        self.names(alloc, INBOX)
     }
 
     fn check_root(&mut self) -> io::Result<()> {
-        let found = place_of(&fs::metadata(self.rt, self.paths.below("")?)?);
+        let found = self.calls.root()?;
         let known = self.root.unwrap_or(found);
         if known != found {
             return Err(io::Error::from(ErrorKind::NotFound));
@@ -128,18 +88,51 @@ impl<'a, R: Files<File = File> + Clock + AllocGlobal> Tray<'a, R> {
         Ok(())
     }
 
+    /// The names of what was taken and is there. A folder that cannot be listed is passed over.
+    fn list_taken(&mut self, alloc: Global) -> io::Result<List<Bytes>> {
+        // This is the first of the two that are listed.
+        self.told.begin();
+        match self.names(alloc, TAKEN) {
+            Err(error) if !is_of_memory(&error) => {
+                self.told.pass_over_for(".", TAKEN, &error);
+                Ok(List::empty(alloc))
+            }
+            listed => listed,
+        }
+    }
+
+    /// The names of what stands in that folder. Of those that would be documents' but are no text it tells.
+    fn names(&mut self, alloc: Global, folder: &str) -> io::Result<List<Bytes>> {
+        let names = self.calls.list(alloc, folder)?;
+        for name in names.as_slice() {
+            self.tell_no_text(folder, name.as_slice())?;
+        }
+        Ok(names)
+    }
+
+    fn tell_no_text(&mut self, folder: &str, name: &[u8]) -> io::Result<()> {
+        if name.ends_with(b".json") && str::from_utf8(name).is_err() {
+            let text = String::from_utf8_lossy(self.alloc, name)?;
+            self.told.pass_over(folder, text.as_str());
+        }
+        Ok(())
+    }
+
     /// Takes a document out of the inbox. Answers whether it did: what is gone is forgotten, and what is no document or cannot
-    /// be taken now is passed over.
-    pub(crate) fn take(&mut self, name: &str) -> io::Result<bool> {
-        match self.try_take(name) {
-            Ok(Kind::File) => Ok(true),
+    /// be taken now is passed over. Only want of memory is an error.
+    fn take(&mut self, name: &str, is_done: bool) -> io::Result<bool> {
+        match self.try_take(name, is_done) {
+            Ok(Kind::File) => {
+                self.begun = None;
+                Ok(true)
+            }
             Ok(Kind::Nothing) => Ok(false),
             Ok(Kind::Other) => {
                 self.told.pass_over(INBOX, name);
                 Ok(false)
             }
             Err(error) if error.kind() == ErrorKind::NotFound => Ok(false),
-            Err(error) if error.kind() == ErrorKind::OutOfMemory => Err(error),
+            Err(error) if is_of_memory(&error) => Err(error),
             Err(error) => {
                 self.told.pass_over_for(INBOX, name, &error);
                 Ok(false)
@@ -147,155 +140,256 @@ impl<'a, R: Files<File = File> + Clock + AllocGlobal> Tray<'a, R> {
         }
     }
 
-    /// Takes a document, where a file stands there that may be read. Answers what stands there.
-    fn try_take(&mut self, name: &str) -> io::Result<Kind> {
-        let path = self.paths.entry(INBOX, name)?;
-        let kind = kind_of(self.rt, path)?;
+    /// Takes what stands there, where it is a file that may be read. Answers what stood there. No other file can come between the
+    /// look at the place and the move, since nobody else works there.
+    fn try_take(&mut self, name: &str, is_done: bool) -> io::Result<Kind> {
+        let kind = self.calls.kind(INBOX, name)?;
         if kind != Kind::File {
             return Ok(kind);
         }
-        if !may_read(path) {
+        if !self.calls.may_read(name)? {
             return Err(io::Error::from(ErrorKind::PermissionDenied));
         }
-        self.make_place(name)?;
-        let target = self.target.entry(TAKEN, name)?;
-        fs::rename(self.rt, self.paths.entry(INBOX, name)?, target)?;
-        self.left.retain(|left| left.as_str() != name);
-        self.sync(TAKEN);
+        if self.calls.make_taken()? {
+            self.sync_one("");
+        }
+        if !is_done && self.calls.kind(TAKEN, name)? != Kind::Nothing {
+            return Err(io::Error::from(ErrorKind::AlreadyExists));
+        }
+        self.calls.rename(name, INBOX, TAKEN)?;
+        self.sync_one(TAKEN);
         Ok(Kind::File)
     }
 
-    /// Makes the folder of those that were taken, where it is not there. It fails where a document of that name stands in it
-    /// that is not handled: that one comes first.
-    fn make_place(&mut self, name: &str) -> io::Result<()> {
-        if make_folder(self.rt, self.target.below(TAKEN)?)? {
-            self.sync("");
-        }
-        let target = self.target.entry(TAKEN, name)?;
-        if kind_of(self.rt, target)? == Kind::Nothing || self.is_left(name) {
-            Ok(())
-        } else {
-            Err(io::Error::from(ErrorKind::AlreadyExists))
-        }
-    }
-
-    fn is_left(&self, name: &str) -> bool {
-        self.left.iter().any(|left| left.as_str() == name)
-    }
-
-    /// The bytes of a document that was taken. What is no file there, or cannot be read now, is passed over: it goes back into
-    /// the inbox where that can be.
-    pub(crate) fn read(&mut self, alloc: Global, name: &str) -> io::Result<Option<Bytes>>
-        ensures { IfOk result (λ found. IfSome found (λ bytes. length bytes ≤ 524289)) }
+    /// The bytes of a document that was taken. What is no file, or cannot be read now, is passed over. Only want of memory is an
+    /// error.
+    fn open(&mut self, alloc: Global, name: &str, most: usize) -> io::Result<Option<Bytes>>
+        ensures short { IfOk result (λ found. IfSome found (λ bytes. length bytes ≤ most)) }
     {
-        match self.try_read(alloc, name) {
-            Ok(bytes) => return Ok(Some(bytes)),
-            Err(error) if error.kind() == ErrorKind::NotFound => return Ok(None),
-            Err(error) if error.kind() == ErrorKind::OutOfMemory => return Err(error),
-            Err(error) => self.told.pass_over_for(TAKEN, name, &error),
+        match self.try_open(alloc, name, most) {
+            Ok(bytes) => {
+                self.tell_taken(name, bytes.len());
+                Ok(Some(bytes))
+            }
+            Err(error) if error.kind() == ErrorKind::NotFound => Ok(None),
+            Err(error) if is_of_memory(&error) => Err(error),
+            Err(error) => {
+                self.told.pass_over_for(TAKEN, name, &error);
+                Ok(None)
+            }
         }
-        let _stays = self.put_back(name);
-        Ok(None)
     }
 
-    fn try_read(&mut self, alloc: Global, name: &str) -> io::Result<Bytes>
-        ensures { IfOk result (λ bytes. length bytes ≤ 524289) }
+    fn try_open(&mut self, alloc: Global, name: &str, most: usize) -> io::Result<Bytes>
+        ensures short { IfOk result (λ bytes. length bytes ≤ most) }
     {
-        let path = self.paths.entry(TAKEN, name)?;
-        match kind_of(self.rt, path)? {
-            Kind::File => read_prefix(alloc, self.rt, path, MOST_GIVEN),
+        match self.calls.kind(TAKEN, name)? {
+            Kind::File => self.calls.read(alloc, name, most),
             Kind::Nothing => Err(io::Error::from(ErrorKind::NotFound)),
             Kind::Other => Err(io::Error::from(ErrorKind::InvalidInput)),
         }
     }
 
-    /// Puts what was taken back under its name. It gets that name beside the one that it has, which fails where something came
-    /// there meanwhile: to rename it would put it in the place of that.
-    fn put_back(&mut self, name: &str) -> io::Result<()> {
-        let target = self.target.entry(INBOX, name)?;
-        let path = self.paths.entry(TAKEN, name)?;
-        fs::hard_link(self.rt, path, target)?;
-        fs::remove_file(self.rt, path)
-    }
-
-    /// Takes away a document that was handled. Where that cannot be it is passed over from here on.
-    pub(crate) fn put_away(&mut self, name: String) {
-        match self.try_put_away(name.as_str()) {
-            Ok(()) => self.told.tell(&Event::Done {
-                name: name.as_str(),
-            }),
-            Err(error) => {
-                self.told.tell(&Event::NotRemoved {
-                    path: self.paths.last(),
-                    error: &error,
-                });
-                // There is room for it. A document that was not remembered would only come once more.
-                let _kept = self.left.push(name);
+    /// Tells once of each that was taken and read.
+    fn tell_taken(&mut self, name: &str, bytes: usize) {
+        if let Some(begun) = &self.begun {
+            if begun.as_str() == name {
+                return;
             }
         }
+        self.told.tell(&Event::Taken { name, bytes });
+        // Where there is no memory to remember it, it is told again.
+        self.begun = String::from_str(self.alloc, name).ok();
     }
 
-    fn try_put_away(&mut self, name: &str) -> io::Result<()> {
-        if self.keep(name)? {
+    /// Puts one that was taken back under its name, where that is free. It gets that name beside the one that it has: a rename
+    /// would put it in the place of what came there meanwhile. Answers whether it is back.
+    fn put_back(&mut self, name: &str) -> io::Result<bool> {
+        self.begun = None;
+        match self.calls.link_back(name) {
+            Err(error) if error.kind() == ErrorKind::AlreadyExists => return Ok(false),
+            linked => linked?,
+        }
+        self.calls.remove(name)?;
+        Ok(true)
+    }
+
+    /// Takes away a document that was handled.
+    fn end(&mut self, name: &str) -> io::Result<()> {
+        self.begun = None;
+        let ended = self.try_end(name);
+        match &ended {
+            Ok(()) => self.told.tell(&Event::Done { name }),
+            Err(error) => self.told.tell(&Event::NotRemoved {
+                path: self.calls.last(),
+                error,
+            }),
+        }
+        ended
+    }
+
+    fn try_end(&mut self, name: &str) -> io::Result<()> {
+        self.is_kept = self.keep(name)?;
+        if self.is_kept {
             return Ok(());
         }
-        match fs::remove_file(self.rt, self.paths.entry(TAKEN, name)?) {
-            Ok(()) => self.sync(TAKEN),
-            Err(error) if error.kind() == ErrorKind::NotFound => {}
-            Err(error) => return Err(error),
+        match self.calls.remove(name) {
+            Err(error) if error.kind() == ErrorKind::NotFound => Ok(()),
+            removed => removed,
         }
-        Ok(())
     }
 
     /// Keeps a document that was handled, where there is a folder for that on the same file system. Answers whether there is.
     fn keep(&mut self, name: &str) -> io::Result<bool> {
-        if !is_folder(self.rt, self.target.below(HANDLED)?) {
+        if !self.calls.has_handled()? {
             return Ok(false);
         }
-        let target = self.target.entry(HANDLED, name)?;
-        match fs::rename(self.rt, self.paths.entry(TAKEN, name)?, target) {
-            Ok(()) => {}
-            Err(error) if error.kind() == ErrorKind::CrossesDevices => return Ok(false),
-            Err(error) if error.kind() == ErrorKind::NotFound => return Ok(false),
-            Err(error) => return Err(error),
+        match self.calls.rename(name, TAKEN, HANDLED) {
+            Ok(()) => Ok(true),
+            Err(error) if error.kind() == ErrorKind::CrossesDevices => Ok(false),
+            Err(error) if error.kind() == ErrorKind::NotFound => Ok(false),
+            Err(error) => Err(error),
         }
-        self.sync(HANDLED);
-        self.sync(TAKEN);
-        Ok(true)
+    }
+
+    /// Makes stable what the last end moved. Answers whether it did.
+    fn sync(&mut self) -> bool {
+        let is_stable = !self.is_kept || self.sync_one(HANDLED);
+        self.sync_one(TAKEN) && is_stable
     }
 
     /// Makes stable what stands in the folder. Where that fails a document may come once more, which its id answers.
-    fn sync(&mut self, folder: &str) {
-        if let Err(error) = self.try_sync(folder) {
-            self.told.fault("sync", folder, &error);
+    fn sync_one(&mut self, folder: &str) -> bool {
+        let synced = self.calls.sync(folder);
+        if let Err(error) = &synced {
+            self.told.fault("sync", folder, error);
+        }
+        synced.is_ok()
+    }
+}
+
+/// The real tray: the folders `inbox` and `taken` below a root, and `handled` where it stands on the same file system, to which
+/// those go that are done; else they are removed. It tells nothing of what the folders hold, and counts its faults: how often
+/// the inbox could not be listed, and how often one could not be put back or taken away, or a move not be made stable.
+#[derive(Drop)]
+pub struct SystemTray<'a, R: Files<File = File>> {
+    documents: Documents<'a, R>,
+    faults: u64,
+    missed: u64,
+}
+
+impl<'a, R: Files<File = File> + Clock + AllocGlobal> SystemTray<'a, R> {
+    /// An empty root is the current folder. Nothing is read before the first call.
+    pub fn new(rt: &'a R, root: &'a str) -> Result<Self, NoMemory>
+        ensures faults { IfOk result (λ tray. tray_faults tray ≡ 0) }
+        ensures missed { IfOk result (λ tray. tray_missed tray ≡ 0) }
+    {
+        Ok(SystemTray {
+            documents: Documents::new(rt, root)?,
+            faults: 0,
+            missed: 0,
+        })
+    }
+
+    /// Counts one more that was missed.
+    fn miss(&mut self)
+        ensures rose { Rose (tray_missed self.old) (tray_missed self.new) }
+        ensures later { tray_missed self.old ≤ tray_missed self.new }
+        ensures others { tray_faults self.new ≡ tray_faults self.old }
+    {
+        self.missed = self.missed.saturating_add(1);
+    }
+}
+
+/// The inbox of the device whose folder this is. An empty root is the current folder. Nothing is read before the first call.
+pub fn folder_inbox<'a, R: Files<File = File> + Clock + AllocGlobal + Clone + Drop>(
+    rt: &'a R,
+    root: &'a str,
+) -> Result<FolderInbox<SystemTray<'a, R>>, NoMemory>
+    ensures answered { IfOk result (λ inbox. inbox_answered inbox ≡ unanswered) }
+    ensures faults { IfOk result (λ inbox. tray_faults (inbox_tray inbox) ≡ 0) }
+{
+    Ok(FolderInbox::new(rt.alloc(), SystemTray::new(rt, root)?))
+}
+
+impl<'a, R: Files<File = File> + Clock + AllocGlobal> Tray for SystemTray<'a, R> {
+    ghost history = { λ tray. None };
+
+    ghost faults = { λ tray. tray_faults tray };
+
+    ghost missed = { λ tray. tray_missed tray };
+
+    fn list(&mut self, alloc: Global) -> Result<List<Bytes>, FolderFault> {
+        match self.documents.list(alloc) {
+            Ok(names) => Ok(names),
+            Err(error) if is_of_memory(&error) => Err(FolderFault::NoMemory),
+            Err(_) => {
+                self.faults = self.faults.saturating_add(1);
+                Err(FolderFault::Failed)
+            }
         }
     }
 
-    fn try_sync(&mut self, folder: &str) -> io::Result<()> {
-        sync_folder(self.rt, self.target.below(folder)?)
+    fn list_taken(&mut self, alloc: Global) -> Result<List<Bytes>, NoMemory> {
+        self.documents.list_taken(alloc).map_err(|_| NoMemory)
     }
-}
 
-fn place_of(metadata: &Metadata) -> Place {
-    Place {
-        device: metadata.dev(),
-        number: metadata.ino(),
+    fn is_file(&mut self, name: &[u8]) -> Result<bool, NoMemory> {
+        match text_of(name) {
+            Ok(text) => or_memory(self.documents.calls.is_file(text), false),
+            Err(_) => Ok(false),
+        }
     }
-}
 
-fn kind_of<R: Files>(files: &R, path: &str) -> io::Result<Kind> {
-    match fs::symlink_metadata(files, path) {
-        Ok(found) if found.is_file() => Ok(Kind::File),
-        Ok(_) => Ok(Kind::Other),
-        Err(error) if error.kind() == ErrorKind::NotFound => Ok(Kind::Nothing),
-        Err(error) => Err(error),
+    fn take(&mut self, name: &[u8], is_done: bool) -> Result<bool, NoMemory> {
+        match text_of(name) {
+            Ok(text) => or_memory(self.documents.take(text, is_done), false),
+            Err(_) => Ok(false),
+        }
     }
-}
 
-/// Whether a folder stands there, or a link that leads to one.
-fn is_folder<R: Files>(files: &R, path: &str) -> bool {
-    match fs::metadata(files, path) {
-        Ok(found) => found.is_dir(),
-        Err(_) => false,
+    fn open(&mut self, alloc: Global, name: &[u8], most: usize) -> Result<Option<Bytes>, NoMemory> {
+        match text_of(name) {
+            Ok(text) => match self.documents.open(alloc, text, most) {
+                Ok(found) => Ok(found),
+                Err(_) => Err(NoMemory),
+            },
+            Err(_) => Ok(None),
+        }
+    }
+
+    fn put_back(&mut self, name: &[u8]) -> Result<bool, NoMemory> {
+        let back = match text_of(name) {
+            Ok(text) => self.documents.put_back(text),
+            Err(error) => Err(error),
+        };
+        match back {
+            Ok(is_back) => Ok(is_back),
+            Err(error) if is_of_memory(&error) => Err(NoMemory),
+            Err(_) => {
+                self.miss();
+                Ok(false)
+            }
+        }
+    }
+
+    fn end(&mut self, name: &[u8]) -> Result<(), FolderFault> {
+        let ended = match text_of(name) {
+            Ok(text) => self.documents.end(text),
+            Err(error) => Err(error),
+        };
+        if ended.is_ok() {
+            return Ok(());
+        }
+        self.miss();
+        Err(FolderFault::Failed)
+    }
+
+    fn sync(&mut self) -> Result<(), FolderFault> {
+        if self.documents.sync() {
+            return Ok(());
+        }
+        self.miss();
+        Err(FolderFault::Failed)
     }
 }

@@ -4,7 +4,7 @@ use crate::children::ended;
 use crate::objects::{has_nothing, piece, takes};
 use edges::{Inbox, InboxFault, Incoming};
 use host_children::ShellRunner;
-use host_edges::{FolderInbox, FolderLibrary};
+use host_edges::{FolderLibrary, folder_inbox};
 use host_files::read_prefix;
 use library_core::{Library, LibraryFault, Piece};
 use nuc_base::Exit;
@@ -188,7 +188,7 @@ fn gives_among_strays<I: Inbox>(rt: &HostRuntime, root: &str, inbox: &mut I) -> 
 fn an_inbox_passes_over_what_is_no_document(rt: HostRuntime) -> Result<(), Fail> {
     let root = "strays-of-an-inbox";
     fs::create_dir_all(&rt, root)?;
-    let mut inbox = FolderInbox::new(&rt, root)?;
+    let mut inbox = folder_inbox(&rt, root)?;
     let are_given = gives_among_strays(&rt, root, &mut inbox);
     drop(inbox);
     assert!(rt; are_given?);
@@ -252,7 +252,7 @@ fn gives<I: Inbox>(alloc: Global, inbox: &mut I, text: &str) -> bool {
 fn a_document_that_comes_under_the_name_of_another_is_given(rt: HostRuntime) -> Result<(), Fail> {
     let root = "replaced-of-a-test";
     fs::create_dir_all(&rt, "replaced-of-a-test/inbox")?;
-    let mut inbox = FolderInbox::new(&rt, root)?;
+    let mut inbox = folder_inbox(&rt, root)?;
     let are_given = gives_both(&rt, &mut inbox);
     drop(inbox);
     assert!(rt; are_given?);
@@ -266,11 +266,11 @@ fn a_document_that_comes_under_the_name_of_another_is_given(rt: HostRuntime) -> 
 /// Whether an inbox gives the document that another one had in hand before those that are new.
 fn goes_on(rt: &HostRuntime, root: &str) -> Result<bool, Fail> {
     let alloc = rt.alloc();
-    let mut killed = FolderInbox::new(rt, root)?;
+    let mut killed = folder_inbox(rt, root)?;
     let is_begun = gives(alloc, &mut killed, "begun");
     drop(killed);
     move_in(rt, "begun-of-a-test/inbox/a.json", "new")?;
-    let mut inbox = FolderInbox::new(rt, root)?;
+    let mut inbox = folder_inbox(rt, root)?;
     let are_taken = takes(alloc, &mut inbox, b"begun") && takes(alloc, &mut inbox, b"new");
     let is_empty = has_nothing(alloc, &mut inbox);
     drop(inbox);
@@ -312,7 +312,7 @@ fn documents_that_were_handled_are_kept(rt: HostRuntime) -> Result<(), Fail> {
         let path = format!(in rt.alloc(); "{root}/{folder}")?;
         fs::create_dir_all(&rt, path.as_str())?;
     }
-    let mut inbox = FolderInbox::new(&rt, root)?;
+    let mut inbox = folder_inbox(&rt, root)?;
     let are_kept = keeps_the_handled(&rt, &mut inbox);
     drop(inbox);
     assert!(rt; are_kept?);
@@ -367,7 +367,7 @@ fn a_document_that_cannot_be_had_waits(rt: HostRuntime) -> Result<(), Fail> {
     let root = "mode-of-a-test";
     fs::create_dir_all(&rt, "mode-of-a-test/inbox")?;
     fs::create_dir_all(&rt, "mode-of-a-test/logs")?;
-    let mut inbox = FolderInbox::new(&rt, root)?;
+    let mut inbox = folder_inbox(&rt, root)?;
     let are_given = waits_for_all(&rt, &mut inbox);
     drop(inbox);
     assert!(rt; are_given?);
@@ -392,7 +392,7 @@ fn misses_its_root<I: Inbox>(rt: &HostRuntime, inbox: &mut I) -> Result<bool, Fa
 fn an_inbox_fails_where_its_root_was_moved(rt: HostRuntime) -> Result<(), Fail> {
     let root = "root-of-a-test";
     fs::create_dir_all(&rt, root)?;
-    let mut inbox = FolderInbox::new(&rt, root)?;
+    let mut inbox = folder_inbox(&rt, root)?;
     let is_missed = misses_its_root(&rt, &mut inbox);
     drop(inbox);
     assert!(rt; is_missed?);

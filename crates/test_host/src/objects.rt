@@ -1,7 +1,7 @@
 use disk_model::{Disk, DiskFault};
 use edges::{Inbox, Incoming};
 use host_disk::{Access, FileDisk};
-use host_edges::{FolderInbox, FolderLibrary};
+use host_edges::{FolderLibrary, folder_inbox};
 use library_core::{Library, LibraryFault, Piece};
 use npm_ranges::Version;
 use nuc_base::{Label, Name};
@@ -339,7 +339,7 @@ fn gives_its_documents<I: Inbox>(rt: &HostRuntime, inbox: &mut I) -> Result<bool
 fn an_inbox_gives_what_is_not_done(rt: HostRuntime) -> Result<(), Fail> {
     let root = "inbox-of-a-test";
     fs::create_dir_all(&rt, root)?;
-    let mut inbox = FolderInbox::new(&rt, root)?;
+    let mut inbox = folder_inbox(&rt, root)?;
     let are_given = gives_its_documents(&rt, &mut inbox);
     drop(inbox);
     assert!(rt; are_given?);
