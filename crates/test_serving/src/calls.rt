@@ -4,7 +4,7 @@ ghost use Rattle.step_runner.specs.Scripted.{living_of};
 
 use disk_model::Disk;
 use edges::MemoryInbox;
-use library_core::MemoryLibrary;
+use library_core::{Contents, MemoryLibrary};
 use nuc_base::{Bytes, List};
 use std::alloc::{AllocError, Global};
 use std::test::Fail;
@@ -16,6 +16,7 @@ use test_calls::{
 /// A call over some disk.
 #[derive(Clone, Copy, Drop)]
 pub(crate) struct Asked<'a> {
+    /// What the library holds, and with `&` before each what it holds after its first refresh, its second, and so on.
     pub(crate) recipes: &'a str,
     pub(crate) command: &'a str,
     /// What the inbox has: documents, and behind them the word `closed` where it is closed.
@@ -50,12 +51,37 @@ fn inbox_of(alloc: Global, asked: Asked<'_>) -> Result<MemoryInbox, Fail> {
     Ok(MemoryInbox::new(documents, is_closed, failing))
 }
 
-/// A library of the recipes, and of the file `f` of B 1.0.0.
+/// The component of version 1.0.0 whose file `f` is there, and the recipes. It is B where none is named by `file` and a name before the
+/// first `;`.
+fn file_and_recipes(words: &str) -> (&str, &str) {
+    match words.strip_prefix("file ") {
+        Some(named) => named.split_once(';').unwrap_or((named, "")),
+        None => ("B", words),
+    }
+}
+
+/// Recipes and one file.
+fn contents_of(alloc: Global, words: &str) -> Result<Contents, Fail> {
+    let (component, recipes) = file_and_recipes(words);
+    let recipes = recipes_of(alloc, recipes)?;
+    let artifacts = files_of(alloc, component.as_bytes(), b"f")?;
+    Ok(Contents { recipes, artifacts })
+}
+
+/// What it holds after the refreshes of all parts but the first.
+fn coming_of(alloc: Global, words: &str) -> Result<List<Contents>, Fail> {
+    let mut coming = List::empty(alloc);
+    for part in words.split('&').skip(1) {
+        coming.push(contents_of(alloc, part)?)?;
+    }
+    Ok(coming)
+}
+
 fn library_of(alloc: Global, asked: Asked<'_>) -> Result<MemoryLibrary, Fail> {
-    let recipes = recipes_of(alloc, asked.recipes)?;
+    let held = contents_of(alloc, asked.recipes.split('&').next().unwrap_or(""))?;
+    let coming = coming_of(alloc, asked.recipes)?;
     let failing = numbers_behind(alloc, asked.outside, "library")?;
-    let files = files_of(alloc, b"B", b"f")?;
-    Ok(MemoryLibrary::new(recipes, files, failing))
+    Ok(MemoryLibrary::changing(held, coming, failing))
 }
 
 /// Adds what the runner did.

@@ -6,7 +6,7 @@ use std::process::Abort;
 use std::test::Fail;
 use test_calls::{Caller, Store, begin, first_wrong};
 
-/// Calls, one after another. A line `store` begins a store, with the recipes of its library. Every other line is a call: its
+/// Calls, one after another. A line `store` begins a store, with what its library holds. Every other line is a call: its
 /// command; what the inbox has; how children end, and which calls fail; the status; the lines that are printed, with `;` for
 /// each line feed; and what the runner did.
 ///
@@ -63,6 +63,30 @@ store|{"RecipeFormatVersion":"2020-01-25"}
 serve --turns 3|d1 ROLLBACK&d2 ROLLBACK&closed||0|refused 2 recipe 0 Missing ComponentName;refused 2 recipe 0 Missing ComponentName;|
 store|A 1.0.0 run a;A 1.0.0 run b
 serve --turns 2|d1 ROLLBACK&closed||0|refused 2 TwoRecipes A 1.0.0;|
+"#
+);
+
+/// A library that holds something else after each refresh. The second document takes what came after the first. A library that fails, each
+/// of whose calls fails, and which is not asked for what is refused before or closed already. An artifact that comes later. A recipe that
+/// becomes another one under the same name and version.
+const LIBRARIES: &str = concat!(
+    r#"store|&A 1.0.0 startup s1&A 1.0.0 startup s1;A 2.0.0 startup s2
+serve --turns 3|d1 ROLLBACK A *&d2 ROLLBACK A *|0 0 0,1 0 0|17|accepted d1;closed d1 SUCCESSFUL;accepted d2;closed d2 SUCCESSFUL;ended 17 3;|"#,
+    r#"start 0 s1,end 0,start 1 s2,end 1,wait 1000,
+status|||0|thing t1;nucleus 2.12.0;group g;require A *;component A 2.0.0 {};closed d1 SUCCESSFUL;closed d2 SUCCESSFUL;|
+store|A 1.0.0 startup a
+serve --turns 2|d1 ROLLBACK A *&d2 ROLLBACK A *|0 0 0,library 0|17|refused 7 library;accepted d2;closed d2 SUCCESSFUL;ended 17 2;|start 0 a,end 0,
+store|A 1.0.0 startup a
+serve --turns 1|d1 ROLLBACK A 1.0.0|0 0 0|17|accepted d1;closed d1 SUCCESSFUL;ended 17 1;|start 0 a,end 0,
+serve --turns 3|[&d1 ROLLBACK A 1.0.0&d2 ROLLBACK A *|0 0 0,library 0,library 1,library 2,library 3|17|refused 2 document NotJson;closed d1 SUCCESSFUL;"#,
+    r#"refused 7 library;ended 17 3;|start 0 a,end 0,
+store|{"RecipeFormatVersion":"2020-01-25","ComponentName":"A","ComponentVersion":"1.0.0","Manifests":[{"Artifacts":[{"URI":"s3://b/f"}]}]}"#,
+    r#"&{"RecipeFormatVersion":"2020-01-25","ComponentName":"A","ComponentVersion":"1.0.0","Manifests":[{"Artifacts":[{"URI":"s3://b/f"}]}]}"#,
+    r#"&file A;{"RecipeFormatVersion":"2020-01-25","ComponentName":"A","ComponentVersion":"1.0.0","Manifests":[{"Artifacts":[{"URI":"s3://b/f"}]}]}
+serve --turns 2|d1 ROLLBACK A *&d2 ROLLBACK A *||17|refused 13 Missing A/1.0.0/f;accepted d2;closed d2 SUCCESSFUL;ended 17 2;|
+store|&A 1.0.0 startup s1&A 1.0.0 startup sx&A 1.0.0 startup s1;A 2.0.0 startup s2
+serve --turns 3|d1 ROLLBACK A *&d2 ROLLBACK A *&d3 ROLLBACK A *|0 0 0,1 0 0|17|accepted d1;closed d1 SUCCESSFUL;refused 2 RecipeDiffers A 1.0.0;"#,
+    r#"accepted d3;closed d3 SUCCESSFUL;ended 17 3;|start 0 s1,end 0,start 1 s2,end 1,
 "#
 );
 
@@ -128,6 +152,11 @@ fn bootstraps_end_a_call_before_its_turns_do(rt: HostRuntime) -> Result<(), Fail
 #[test]
 fn serving_goes_on_behind_each_refusal(rt: HostRuntime) -> Result<(), Fail> {
     each_row_comes(&rt, rt.alloc(), REFUSALS)
+}
+
+#[test]
+fn each_document_takes_what_the_library_holds_then(rt: HostRuntime) -> Result<(), Fail> {
+    each_row_comes(&rt, rt.alloc(), LIBRARIES)
 }
 
 #[test]
